@@ -13,3 +13,10 @@ pub struct FilmHead {
     /// Seconds for `num` pictures.
     pub den: u32,
 }
+
+/// Why bytes are no film.
+#[derive(Clone, Copy, Debug, PartialEq, Eq)]
+pub enum InputFault {
+    /// The bytes don't have the form of a film.
+    Form,
+}
