@@ -1,5 +1,5 @@
 -- Films: what the bytes of a YUV4MPEG2 file say. A film is a head line and then pictures, each a line and three planes.
-use Rattle.std.specs.Prelude.{ℕ, zero, suc, ◌+◌, ◌-◌, ◌*◌, ◌/◌, ◌%◌, ◌==◌, ◌≡◌, ◌≤◌, nat_le, nat_eq, ◌&&◌, Bool, true, false, List, [], ◌∷◌, length, take, drop, codes, fold, Option, Some, None, if◌then◌else◌}
+use Rattle.std.specs.Prelude.{ℕ, zero, suc, ◌+◌, ◌-◌, ◌*◌, ◌/◌, ◌%◌, ◌==◌, ◌≡◌, ◌≤◌, nat_le, nat_eq, ◌&&◌, Bool, List, [], ◌∷◌, length, take, drop, codes, fold, Option, Some, None, if◌then◌else◌}
 use Rattle.std.specs.List.{list_all, starts_with, before_first}
 use Rattle.std.specs.Char.{is_ascii_digit}
 use Rattle.spec_film.specs.declared.FilmHead.{FilmHead}
