@@ -2,7 +2,9 @@
 #![tactic(auto)]
 
 mod full;
+mod memory;
 mod studio;
 
 pub use full::{read_full, write_full};
+pub use memory::{MemStudio, Standing};
 pub use studio::{Failed, Gate, OpenGate, Out, Place, Studio};
