@@ -1,0 +1,6 @@
+pub mod Calls
+pub mod Memory
+pub mod Places
+pub mod Reads
+pub mod Seen
+pub mod Stands

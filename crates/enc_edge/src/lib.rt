@@ -1,0 +1,10 @@
+//! The outside of the encoder: where its bytes come from and go to, and who is asked before each row.
+#![tactic(auto)]
+
+mod full;
+mod memory;
+mod studio;
+
+pub use full::{read_full, write_full};
+pub use memory::{MemStudio, Standing};
+pub use studio::{Failed, Gate, OpenGate, Out, Place, Studio};
