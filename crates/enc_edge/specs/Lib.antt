@@ -1,4 +1,5 @@
 pub mod Calls
+pub mod Counts
 pub mod Memory
 pub mod Places
 pub mod Reads

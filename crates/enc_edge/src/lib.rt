@@ -3,8 +3,11 @@
 
 mod full;
 mod memory;
+mod places;
+mod real;
 mod studio;
 
 pub use full::{read_full, write_full};
 pub use memory::{MemStudio, Standing};
+pub use real::RealStudio;
 pub use studio::{Failed, Gate, OpenGate, Out, Place, Studio};

@@ -2,9 +2,9 @@
 ghost use Rattle.std.specs.Prelude.{◌≡◌, ◌<◌, ◌≤◌, ◌+◌, ◌-◌, ◌^◌, ◌++◌, [], length, take, min, is_err, MatchResult, IfSome, IfOk, vec_len};
 ghost use Rattle.std.specs.Vec.{vec_capacity};
 ghost use Rattle.enc_edge.specs.Calls.{shut_standing};
-ghost use Rattle.enc_edge.specs.Places.{place_index};
 ghost use Rattle.enc_edge.specs.Stands.{stand_of};
 
+use crate::places::place_at;
 use crate::{Failed, Out, Place, Studio};
 use arrayvec::ArrayString;
 use std::alloc::{AllocError as OutOfMemory, Global};
@@ -73,17 +73,6 @@ fn shut_from(standing: Standing) -> Standing
         Standing::Opened(name) => Standing::Shut(name),
         Standing::Fresh => Standing::Fresh,
         Standing::Shut(name) => Standing::Shut(name),
-    }
-}
-
-fn place_at(place: Place) -> usize
-    ensures { result ≡ place_index place }
-{
-    match place {
-        Place::Input => 0,
-        Place::Output(Out::Stream) => 1,
-        Place::Output(Out::Recon) => 2,
-        Place::Output(Out::Report) => 3,
     }
 }
 

@@ -1,0 +1,17 @@
+// The places by number.
+ghost use Rattle.std.specs.Prelude.{◌≡◌};
+ghost use Rattle.enc_edge.specs.Places.{place_index};
+
+use crate::{Out, Place};
+
+// The input is first, then come the outputs in order.
+pub(crate) fn place_at(place: Place) -> usize
+    ensures { result ≡ place_index place }
+{
+    match place {
+        Place::Input => 0,
+        Place::Output(Out::Stream) => 1,
+        Place::Output(Out::Recon) => 2,
+        Place::Output(Out::Report) => 3,
+    }
+}

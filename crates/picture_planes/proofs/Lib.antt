@@ -1,0 +1,4 @@
+pub mod OverLaws
+pub mod RowLaws
+pub mod SampleLaws
+pub mod Setting
