@@ -1,5 +1,5 @@
 -- Laws of Exp-Golomb codes and of the bits that fill a byte.
-use Rattle.std.proofs.Common.{ℕ, zero, suc, ◌≡◌, ◌+◌, ◌-◌, ◌*◌, ◌^◌, ◌/◌, ◌%◌, ◌<◌, ◌≤◌, true, false, [], ◌∷◌, ◌++◌, length, refl, ap, ap₂, ◌∙◌, arith, pow_pos}
+use Rattle.std.proofs.Common.{ℕ, zero, suc, ◌≡◌, ◌+◌, ◌-◌, ◌*◌, ◌^◌, ◌/◌, ◌%◌, ◌<◌, ◌≤◌, true, false, [], ◌∷◌, ◌++◌, length, refl, sym, ap, ap₂, ◌∙◌, arith, pow_pos}
 use Rattle.std.specs.Prelude.{replicate}
 use Rattle.std.proofs.Math.Nat.{pow-le-pow_right}
 use Rattle.std.specs.Int.Count.{count_leading_zeros}
@@ -68,3 +68,18 @@ trail_whole n = omega (arith, length-trail_bits n)
 
 pub align_whole : (n : ℕ) → (n + length (align_bits n)) % 8 ≡ 0
 align_whole n = omega (arith, length-align_bits n)
+
+pub ue_bits-digits : (v z : ℕ) → v + 1 < 2 ^ 64 → 2 ^ z ≤ v + 1 → v + 1 < 2 ^ (z + 1) → ue_bits v ≡ digits z 0 ++ digits (z + 1) (v + 1)
+ue_bits-digits v z small low high =
+    let e : z + 1 ≡ suc z = omega arith in
+    ue_bits-is v z small low (rw (← e) high) ∙ ap₂ (λ x n. x ++ digits n (v + 1)) (sym (digits-zero z)) (sym e)
+
+pub trail_bits-digits : (n z p : ℕ) → z ≡ 7 - n % 8 → p ≡ 2 ^ z → digits (z + 1) p ≡ trail_bits n
+unfolding trail_bits
+trail_bits-digits n z p h k =
+    let e : z + 1 ≡ suc z = omega arith in
+    ap₂ (λ m v. digits m v) e k ∙ digits-one z ∙ ap (λ m. true ∷ replicate m false) h
+
+pub align_bits-digits : (n z : ℕ) → z ≡ to_byte n → digits z 0 ≡ align_bits n
+unfolding align_bits
+align_bits-digits n z h = digits-zero z ∙ ap (λ m. replicate m false) h
