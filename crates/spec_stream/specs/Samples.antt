@@ -1,0 +1,35 @@
+-- The samples of a picture, from those of its macroblocks.
+use Rattle.std.specs.Prelude.{ℕ, ◌+◌, ◌*◌, ◌/◌, ◌%◌, List, [], map, take, drop, get_or}
+use Rattle.std.specs.List.{range_with_len, flat_map}
+use Rattle.spec_film.specs.Films.{Planes}
+
+-- The sample at place i, in raster scan, of a plane of macroblocks: `across` macroblocks wide, with blocks of `size` rows of `size` samples,
+-- which stand from `first` on among the samples of their macroblock (clause 6.4.1)
+abbrev pub sample_at : ℕ → ℕ → ℕ → List (List ℕ) → ℕ → ℕ
+sample_at across size first macroblocks i =
+    let x = i % (size * across) in
+    let y = i / (size * across) in
+    get_or (get_or macroblocks (y / size * across + x / size) []) (first + (y % size * size + x % size)) 0
+
+unfoldable pub plane_from : ℕ → ℕ → ℕ → ℕ → List (List ℕ) → List ℕ
+plane_from across down size first macroblocks = map (sample_at across size first macroblocks) (range_with_len 0 (size * across * (size * down)))
+
+-- the picture that the macroblocks make
+abbrev pub picture_from : ℕ → ℕ → List (List ℕ) → Planes
+picture_from across down macroblocks = record {
+  luma = plane_from across down 16 0 macroblocks;
+  cb = plane_from across down 8 256 macroblocks;
+  cr = plane_from across down 8 320 macroblocks;
+}
+
+-- the first `columns` samples of each of the first `rows` rows of a plane whose rows have this width
+unfoldable pub cropped_plane : ℕ → ℕ → ℕ → List ℕ → List ℕ
+cropped_plane width columns rows samples = flat_map (λ y. take columns (drop (y * width) samples)) (range_with_len 0 rows)
+
+-- the cropping rectangle of so many luma columns and rows, from the upper left corner on (clause 7.4.2.1.1)
+abbrev pub cropped : ℕ → ℕ → ℕ → Planes → Planes
+cropped across width height p = record {
+  luma = cropped_plane (16 * across) width height p.luma;
+  cb = cropped_plane (8 * across) (width / 2) (height / 2) p.cb;
+  cr = cropped_plane (8 * across) (width / 2) (height / 2) p.cr;
+}
