@@ -1,6 +1,7 @@
 -- What a studio in memory shows, when its calls fail, and how much they move.
 use Rattle.std.specs.Prelude.{ℕ, ◌+◌, ◌-◌, ◌*◌, ◌^◌, min, ◌≡◌, ◌==◌, ◌||◌, Bool, nat_lt, nat_le, List, [], drop, length, Some, None, slice_get, slice_index, unwrap_or}
 use Rattle.std.specs.List.{list_any}
+use Rattle.std.specs.Option.{option_map}
 use Rattle.enc_edge.specs.declared.studio.Out.{Out}
 use Rattle.enc_edge.specs.declared.studio.Out.TheVariants.{Stream, Recon, Report}
 use Rattle.enc_edge.specs.declared.studio.Place.{Place}
@@ -8,7 +9,7 @@ use Rattle.enc_edge.specs.declared.studio.Place.TheVariants.{Input, Output}
 use Rattle.enc_edge.specs.declared.memory.Standing.TheVariants.{Fresh}
 use Rattle.enc_edge.specs.declared.memory.MemStudio.{MemStudio}
 use Rattle.enc_edge.specs.Stands.{stand_of}
-use Rattle.enc_edge.specs.Places.{place_index}
+use Rattle.enc_edge.specs.Places.{place_index, output_index}
 use Rattle.enc_edge.specs.Seen.{Seen, Spot, Unopened}
 
 -- the bytes of the input that were not taken
@@ -17,9 +18,7 @@ left m = drop m.taken m.input.items
 
 -- the bytes written to an output
 abbrev pub written : Out → MemStudio → List ℕ
-written Stream m = m.stream.items
-written Recon m = m.recon.items
-written Report m = m.report.items
+written out m = unwrap_or (option_map (λ held. held.items) (slice_get m.outputs (output_index out))) []
 
 abbrev pub spot_of : Place → List ℕ → MemStudio → Spot
 spot_of place bytes m = record {

@@ -1,10 +1,10 @@
 // A studio in memory, whose calls fail by a list.
-ghost use Rattle.std.specs.Prelude.{◌≡◌, ◌<◌, ◌≤◌, ◌+◌, ◌-◌, ◌^◌, ◌++◌, [], length, take, min, is_err, MatchResult, IfSome, IfOk, vec_len};
+ghost use Rattle.std.specs.Prelude.{◌≡◌, ◌<◌, ◌≤◌, ◌+◌, ◌-◌, ◌^◌, ◌++◌, [], length, take, min, is_err, MatchResult, IfSome, IfOk, vec_len, All};
 ghost use Rattle.std.specs.Vec.{vec_capacity};
 ghost use Rattle.enc_edge.specs.Calls.{shut_standing};
 ghost use Rattle.enc_edge.specs.Stands.{stand_of};
 
-use crate::places::place_at;
+use crate::places::{output_at, place_at};
 use crate::{Failed, Out, Place, Studio};
 use arrayvec::ArrayString;
 use std::alloc::{AllocError as OutOfMemory, Global};
@@ -30,9 +30,8 @@ pub enum Standing {
 pub struct MemStudio {
     input: Vec<u8>,
     taken: usize,
-    stream: Vec<u8>,
-    recon: Vec<u8>,
-    report: Vec<u8>,
+    // In the order of Out.
+    outputs: [Vec<u8>; 3],
     room: usize,
     // By place: the input, then the outputs in order.
     names: [Standing; 4],
@@ -42,12 +41,9 @@ pub struct MemStudio {
     // By place: the faults of opening it, then those of later calls.
     counters: [u64; 8],
     ghost taken_within: { taken ≤ vec_len input },
-    ghost stream_fits: { vec_len stream ≤ room },
-    ghost recon_fits: { vec_len recon ≤ room },
-    ghost report_fits: { vec_len report ≤ room },
-    ghost stream_room: { room ≤ vec_capacity stream },
-    ghost recon_room: { room ≤ vec_capacity recon },
-    ghost report_room: { room ≤ vec_capacity report },
+    ghost three_outputs: { length outputs ≡ 3 },
+    ghost outputs_fit: { All (λ held. vec_len held ≤ room) outputs },
+    ghost outputs_made: { All (λ held. room ≤ vec_capacity held) outputs },
     ghost moves: { 1 ≤ piece },
     ghost four_names: { length names ≡ 4 },
 }
@@ -58,7 +54,8 @@ fn append(held: &mut Vec<u8>, room: usize, piece: usize, bytes: &[u8]) -> usize
     requires made { room ≤ vec_capacity held.old }
     ensures count { result ≡ min (min (length bytes.now) piece) (room - vec_len held.old) }
     ensures items { held.new.items ≡ held.old.items ++ take result bytes.now }
-    ensures made { vec_capacity held.old ≤ vec_capacity held.new }
+    ensures fits { vec_len held.new ≤ room }
+    ensures made { room ≤ vec_capacity held.new }
 {
     let n = bytes.len().min(piece).min(room - held.len());
     // The room was made at the start, so this takes no memory and can't fail.
@@ -96,9 +93,11 @@ impl MemStudio {
         Ok(MemStudio {
             input,
             taken: 0,
-            stream: Vec::with_capacity(alloc, room)?,
-            recon: Vec::with_capacity(alloc, room)?,
-            report: Vec::with_capacity(alloc, room)?,
+            outputs: [
+                Vec::with_capacity(alloc, room)?,
+                Vec::with_capacity(alloc, room)?,
+                Vec::with_capacity(alloc, room)?,
+            ],
             room,
             names: [Standing::Fresh; 4],
             piece,
@@ -112,11 +111,7 @@ impl MemStudio {
     pub fn written(&self, out: Out) -> &[u8]
         ensures { result.now ≡ written out self.now }
     {
-        match out {
-            Out::Stream => &self.stream,
-            Out::Recon => &self.recon,
-            Out::Report => &self.report,
-        }
+        &self.outputs[output_at(out)]
     }
 }
 
@@ -246,11 +241,8 @@ impl Studio for MemStudio {
         }
         let room = self.room;
         let piece = self.piece;
-        Ok(match out {
-            Out::Stream => append(&mut self.stream, room, piece, bytes),
-            Out::Recon => append(&mut self.recon, room, piece, bytes),
-            Out::Report => append(&mut self.report, room, piece, bytes),
-        })
+        let held = &mut self.outputs[output_at(out)];
+        Ok(append(held, room, piece, bytes))
     }
 
     fn close_out(&mut self, out: Out) -> Result<(), Failed>
