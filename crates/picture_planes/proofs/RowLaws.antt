@@ -1,5 +1,5 @@
 -- What a plane holds once a row is written.
-use Rattle.std.proofs.Common.{◌≡◌, ◌≤◌, ◌<◌, ◌+◌, ◌-◌, ◌*◌, ℕ, List, length, take, drop, slice_range, refl, sym, ap, ◌∙◌, arith}
+use Rattle.std.proofs.Common.{◌≡◌, ◌≤◌, ◌<◌, ◌+◌, ◌-◌, ◌*◌, ℕ, List, length, take, drop, sym, ap, ◌∙◌, arith}
 use native.Mathlib.Nat.{mul-le-mul_right}
 use Rattle.std.proofs.lemmas.List.{with_items_is}
 use Rattle.picture_planes.specs.declared.plane.Plane.{Plane}

@@ -1,4 +1,4 @@
-use Rattle.std.proofs.Common.{arith, ℕ, ap, take, drop, ◌-◌, ◌∙◌, ◌≡◌, ◌≤◌, ◌+◌, ◌*◌, length}
+use Rattle.std.proofs.Common.{arith, ℕ, ap, take, drop, ◌-◌, ◌∙◌, ◌≡◌, ◌≤◌, ◌+◌, ◌*◌}
 use Rattle.picture_planes.proofs.SampleLaws.{before_end}
 use Rattle.picture_planes.proofs.Setting.{set_more}
 use Rattle.picture_planes.proofs.plane.Plane.set_rows.Goals as goal

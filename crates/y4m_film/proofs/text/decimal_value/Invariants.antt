@@ -1,0 +1,5 @@
+use Rattle.y4m_film.proofs.Numbers.{Valued}
+use Rattle.y4m_film.proofs.text.decimal_value.Given as goal
+
+abbrev pub invariant-loop-digit : goal.invariant-loop-digit
+invariant-loop-digit l = Valued l.digits l.digit-index l.value

@@ -1,0 +1,10 @@
+//! Films are read from the front: the head, and then picture by picture.
+#![tactic(auto)]
+
+mod head;
+mod pictures;
+mod text;
+
+pub use head::{HeadFault, read_head};
+pub use pictures::{FrameFault, next_picture};
+pub use spec_film::{FilmHead, InputFault};
