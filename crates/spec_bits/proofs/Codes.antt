@@ -1,5 +1,5 @@
 -- Laws of Exp-Golomb codes and of the bits that fill a byte.
-use Rattle.std.proofs.Common.{ℕ, zero, suc, ◌≡◌, ◌+◌, ◌-◌, ◌*◌, ◌^◌, ◌/◌, ◌%◌, ◌<◌, ◌≤◌, true, false, [], ◌∷◌, ◌++◌, length, refl, sym, ap, ap₂, ◌∙◌, arith, pow_pos}
+use Rattle.std.proofs.Common.{ℕ, zero, suc, ◌≡◌, ◌+◌, ◌-◌, ◌*◌, ◌^◌, ◌/◌, ◌%◌, ◌<◌, ◌≤◌, true, false, [], ◌∷◌, ◌++◌, length, refl, sym, ap, ap₂, ◌∙◌, arith, pow-suc, pow_pos}
 use Rattle.std.specs.Prelude.{replicate}
 use Rattle.std.proofs.Math.Nat.{pow-le-pow_right}
 use Rattle.std.specs.Int.Count.{count_leading_zeros}
@@ -83,3 +83,11 @@ trail_bits-digits n z p h k =
 pub align_bits-digits : (n z : ℕ) → z ≡ to_byte n → digits z 0 ≡ align_bits n
 unfolding align_bits
 align_bits-digits n z h = digits-zero z ∙ ap (λ m. replicate m false) h
+
+-- as many ones
+pub digits-ones : (n : ℕ) → digits n (2 ^ n - 1) ≡ replicate n true
+digits-ones zero = digits-none 0
+digits-ones (suc n) =
+    let e : suc n ≡ 1 + n = omega arith in
+    let w : 2 ^ suc n - 1 ≡ 1 * 2 ^ n + (2 ^ n - 1) = omega (arith, pow-suc 2 n, pow_pos n) in
+    ap₂ (λ k v. digits k v) e w ∙ digits-append 1 n 1 (2 ^ n - 1) (omega arith) (omega (arith, pow_pos n)) ∙ ap₂ (λ x y. x ++ y) one_digit (digits-ones n)

@@ -57,9 +57,9 @@ usability_fields refs (Some t) =
     -- log2_max_mv_length_horizontal, log2_max_mv_length_vertical, max_num_reorder_frames, max_dec_frame_buffering
     ∷ Ue 8 ∷ Ue 8 ∷ Ue (digit t.reorder) ∷ Ue refs ∷ []))
 
--- seq_parameter_set_data (clause 7.3.2.1.1) of High profile
-unfoldable pub sequence_fields : SeqHead → List Field
-sequence_fields h =
+-- seq_parameter_set_data (clause 7.3.2.1.1) of High profile, up to direct_8x8_inference_flag
+unfoldable pub format_fields : SeqHead → List Field
+format_fields h =
     -- profile_idc, the constraint flags and reserved bits, level_idc, seq_parameter_set_id
     U 8 100 ∷ U 8 0 ∷ U 8 h.level ∷ Ue 0
     -- chroma_format_idc, bit_depth_luma_minus8, bit_depth_chroma_minus8
@@ -73,8 +73,11 @@ sequence_fields h =
     -- pic_width_in_mbs_minus1, pic_height_in_map_units_minus1
     ∷ Ue (in_mbs h.width - 1) ∷ Ue (in_mbs h.height - 1)
     -- frame_mbs_only_flag, direct_8x8_inference_flag
-    ∷ flag true ∷ flag true
-    ∷ (cropping_fields h.width h.height ++ usability_fields h.refs h.timing)
+    ∷ flag true ∷ flag true ∷ []
+
+-- seq_parameter_set_data
+unfoldable pub sequence_fields : SeqHead → List Field
+sequence_fields h = format_fields h ++ (cropping_fields h.width h.height ++ usability_fields h.refs h.timing)
 
 -- pic_parameter_set_rbsp (clause 7.3.2.2), by entropy_coding_mode_flag and transform_8x8_mode_flag
 unfoldable pub picture_fields : Bool → Bool → List Field
@@ -104,12 +107,10 @@ moved_fields None = flag false ∷ []
 moved_fields (Some difference) = flag true ∷ Ue 0 ∷ Ue difference ∷ Ue 3 ∷ []
 
 -- how references are listed: direct_spatial_mv_pred_flag, num_ref_idx_active_override_flag and the counts less 1, and the changes of the lists
-unfoldable pub list_fields : SliceHead → List Field
-list_fields h = elim h.kind [
-  | I ↦ []
-  | P ↦ flag true ∷ Ue (h.refs0 - 1) ∷ moved_fields h.moved
-  | B ↦ flag true ∷ flag true ∷ Ue (h.refs0 - 1) ∷ Ue (h.refs1 - 1) ∷ (moved_fields h.moved ++ (flag false ∷ []))
-]
+unfoldable pub list_fields : SliceKind → ℕ → ℕ → Option ℕ → List Field
+list_fields I refs0 refs1 moved = []
+list_fields P refs0 refs1 moved = flag true ∷ Ue (refs0 - 1) ∷ moved_fields moved
+list_fields B refs0 refs1 moved = flag true ∷ flag true ∷ Ue (refs0 - 1) ∷ Ue (refs1 - 1) ∷ (moved_fields moved ++ (flag false ∷ []))
 
 -- dec_ref_pic_marking (clause 7.3.3.3), which only pictures that others refer to have: B pictures are none
 unfoldable pub marking_fields : Bool → SliceKind → List Field
@@ -125,16 +126,19 @@ init_fields true I = []
 init_fields true P = Ue 0 ∷ []
 init_fields true B = Ue 0 ∷ []
 
+-- where a slice stands: first_mb_in_slice, slice_type, pic_parameter_set_id, frame_num, idr_pic_id, pic_order_cnt_lsb
+unfoldable pub place_fields : SliceHead → List Field
+place_fields h =
+    Ue h.first_mb ∷ Ue (kind_number h.kind) ∷ Ue 0 ∷ U 16 h.frame_num
+    ∷ ((if h.idr then Ue h.idr_id ∷ [] else []) ++ (U 16 h.poc ∷ []))
+
+-- slice_qp_delta, against the 26 of the picture parameter set
+abbrev pub qp_field : ℕ → Field
+qp_field qp = Se (pos qp -ℤ pos 26)
+
 -- slice_header (clause 7.3.3)
 unfoldable pub slice_fields : SliceHead → List Field
-slice_fields h =
-    -- first_mb_in_slice, slice_type, pic_parameter_set_id, frame_num
-    Ue h.first_mb ∷ Ue (kind_number h.kind) ∷ Ue 0 ∷ U 16 h.frame_num
-    -- idr_pic_id, pic_order_cnt_lsb
-    ∷ ((if h.idr then Ue h.idr_id ∷ [] else []) ++ (U 16 h.poc
-    ∷ (list_fields h ++ (marking_fields h.idr h.kind ++ (init_fields h.cabac h.kind
-    -- slice_qp_delta
-    ++ (Se (pos h.qp -ℤ pos 26) ∷ []))))))
+slice_fields h = place_fields h ++ (list_fields h.kind h.refs0 h.refs1 h.moved ++ (marking_fields h.idr h.kind ++ (init_fields h.cabac h.kind ++ (qp_field h.qp ∷ []))))
 
 -- the bits that begin a slice: its header, and where the arithmetic coder follows, ones to the byte (cabac_alignment_one_bit, clause 7.3.4)
 unfoldable pub slice_head_bits : SliceHead → List Bool

@@ -1,0 +1,12 @@
+use Rattle.std.proofs.Common.{sym, ◌∙◌}
+use Rattle.spec_bits.specs.Heads.{slice_head_bits}
+use Rattle.param_sets.proofs.Steps.{cut_back, failed, succeeded}
+use Rattle.param_sets.proofs.heads.write_slice_head.Goals as goal
+
+pub returns-then-is_err : goal.returns-then-is_err
+returns-then-is_err c =
+    let f = failed c.args.out.now c.put_slice_head.new.out (slice_head_bits c.args.head.now) c.put_slice_head.result (sym c.is_err.ensures.value ∙ c.if-is_err.true) c.put_slice_head.ensures in
+    (f.0, cut_back c.args.out.now c.put_slice_head.new.out c.cut.new.self c.len-start.result c.len-start.ensures.len f.1 c.cut.ensures)
+
+pub returns : goal.returns
+returns c = succeeded c.args.out.now c.put_slice_head.new.out (slice_head_bits c.args.head.now) c.put_slice_head.result (sym c.is_err.ensures.value ∙ c.if-is_err.false) c.put_slice_head.ensures

@@ -1,0 +1,458 @@
+// The heads, from their fields.
+ghost use Rattle.std.specs.Prelude.{◌≡◌, ℕ, ◌+◌, ◌-◌, ◌*◌, ◌/◌, ◌^◌, ◌++◌, ◌∷◌, ◌<◌, ◌≤◌, [], length, replicate, true, false, IfSome, ◌&&◌, ◌==◌, if◌then◌else◌};
+ghost use Rattle.spec_bits.specs.declared.Field.TheVariants.{U, Ue};
+ghost use Rattle.spec_bits.specs.Golomb.{to_byte};
+ghost use Rattle.spec_bits.specs.Bits.{digit};
+ghost use Rattle.spec_bits.specs.Fields.{fields_bits};
+ghost use Rattle.spec_bits.specs.Heads.{in_mbs, padding, cropping_fields, usability_fields, sequence_fields, format_fields, picture_fields, kind_number, place_fields, qp_field, moved_fields, list_fields, marking_fields, init_fields, slice_fields, slice_head_bits};
+ghost use Rattle.spec_bits.specs.Allowed.{FieldFits, IsSeqHead, IsSliceHead, IsTiming, HasLists};
+ghost use Rattle.bit_strings.specs.BitText.{Appends};
+ghost use Rattle.param_sets.specs.Pieces.{Grows};
+
+use crate::fields::put_fields;
+use bit_strings::{BitBuf, Full};
+use enc_tables::SliceKind;
+use spec_bits::Field::{Se, U, Ue};
+use spec_bits::{Field, SeqHead, SliceHead, Timing};
+
+/// Appends the fields of a sequence parameter set of High profile (clause 7.3.2.1.1). The caller ends the payload with `trail`.
+///
+/// `Full` comes exactly where they don't fit; the buffer is then unchanged.
+pub fn write_sps(out: &mut BitBuf, head: &SeqHead) -> Result<(), Full>
+    requires allowed { IsSeqHead head.now }
+    requires empty { out.old.text ≡ [] }
+    ensures { Appends out.old out.new (fields_bits (sequence_fields head.now)) result }
+{
+    let start = out.len();
+    if put_sequence(out, head).is_err() {
+        out.cut(start);
+        return Err(Full);
+    }
+    Ok(())
+}
+
+/// Appends the fields of a picture parameter set (clause 7.3.2.2): whether the arithmetic coder is used, and whether 8x8 transforms are. The caller ends the payload with `trail`.
+///
+/// `Full` comes exactly where they don't fit; the buffer is then unchanged.
+pub fn write_pps(out: &mut BitBuf, cabac: bool, t8x8: bool) -> Result<(), Full>
+    requires { out.old.text ≡ [] }
+    ensures { Appends out.old out.new (fields_bits (picture_fields cabac t8x8)) result }
+{
+    let start = out.len();
+    if put_picture(out, cabac, t8x8).is_err() {
+        out.cut(start);
+        return Err(Full);
+    }
+    Ok(())
+}
+
+/// Appends a slice header (clause 7.3.3), and where the arithmetic coder follows, ones to the byte.
+///
+/// `Full` comes exactly where they don't fit; the buffer is then unchanged.
+pub fn write_slice_head(out: &mut BitBuf, head: &SliceHead) -> Result<(), Full>
+    requires allowed { IsSliceHead head.now }
+    requires empty { out.old.text ≡ [] }
+    ensures { Appends out.old out.new (slice_head_bits head.now) result }
+{
+    let start = out.len();
+    if put_slice_head(out, head).is_err() {
+        out.cut(start);
+        return Err(Full);
+    }
+    Ok(())
+}
+
+fn put_sequence(out: &mut BitBuf, head: &SeqHead) -> Result<(), Full>
+    requires { IsSeqHead head.now }
+    ensures { Grows out.old out.new (fields_bits (sequence_fields head.now)) result }
+{
+    put_format(out, head)?;
+    put_cropping(out, head.width, head.height)?;
+    put_usability(out, head.refs, head.timing)
+}
+
+// From the profile to direct_8x8_inference_flag.
+#[tactic(auto, unfolding(spec_bits::specs::Heads::format_fields))]
+fn put_format(out: &mut BitBuf, head: &SeqHead) -> Result<(), Full>
+    requires { IsSeqHead head.now }
+    ensures { Grows out.old out.new (fields_bits (format_fields head.now)) result }
+{
+    let wide = macroblocks(head.width);
+    let high = macroblocks(head.height);
+    put_fields(
+        out,
+        &[
+            U(8, 100),
+            U(8, 0),
+            U(8, head.level as u32),
+            Ue(0),
+            Ue(1),
+            Ue(0),
+            Ue(0),
+            U(1, 0),
+            U(1, 0),
+            Ue(12),
+            Ue(0),
+            Ue(12),
+            Ue(head.refs),
+            U(1, 0),
+            Ue(wide - 1),
+            Ue(high - 1),
+            U(1, 1),
+            U(1, 1),
+        ],
+    )
+}
+
+#[tactic(auto, unfolding(spec_bits::specs::Heads::cropping_fields))]
+fn put_cropping(out: &mut BitBuf, width: u32, height: u32) -> Result<(), Full>
+    requires width { (1 ≤ width) × (width ≤ 4096) }
+    requires height { (1 ≤ height) × (height ≤ 4096) }
+    ensures { Grows out.old out.new (fields_bits (cropping_fields width height)) result }
+{
+    let right = padded_by(width);
+    let bottom = padded_by(height);
+    if is_whole(right, bottom) {
+        return put_fields(out, &[U(1, 0)]);
+    }
+    put_fields(out, &[U(1, 1), Ue(0), Ue(right / 2), Ue(0), Ue(bottom / 2)])
+}
+
+fn is_whole(right: u32, bottom: u32) -> bool
+    ensures { result ≡ ((right == 0) && (bottom == 0)) }
+{
+    right == 0 && bottom == 0
+}
+
+#[tactic(auto, unfolding(spec_bits::specs::Heads::usability_fields))]
+fn put_usability(out: &mut BitBuf, refs: u32, timing: Option<Timing>) -> Result<(), Full>
+    requires refs { refs ≤ 4 }
+    requires timing { IfSome timing IsTiming }
+    ensures { Grows out.old out.new (fields_bits (usability_fields refs timing)) result }
+{
+    match timing {
+        None => put_fields(out, &[U(1, 0)]),
+        Some(timing) => put_timing(out, refs, timing),
+    }
+}
+
+#[tactic(auto, unfolding(spec_bits::specs::Heads::usability_fields, spec_bits::specs::Heads::buffer_fields))]
+fn put_timing(out: &mut BitBuf, refs: u32, timing: Timing) -> Result<(), Full>
+    requires refs { refs ≤ 4 }
+    requires timing { IsTiming timing }
+    ensures { Grows out.old out.new (fields_bits (usability_fields refs (Some timing))) result }
+{
+    let reorder = reorder_depth(timing.reorder);
+    put_fields(
+        out,
+        &[
+            U(1, 1),
+            U(1, 0),
+            U(1, 0),
+            U(1, 0),
+            U(1, 0),
+            U(1, 1),
+            U(32, timing.den),
+            U(32, 2 * timing.num),
+            U(1, 1),
+            U(1, 1),
+            Ue(0),
+            U(4, 0),
+            U(4, 0),
+            Ue(timing.rate / 64 - 1),
+            Ue(timing.cpb / 16 - 1),
+            U(1, 1),
+            U(5, 31),
+            U(5, 23),
+            U(5, 23),
+            U(5, 0),
+            U(1, 0),
+            U(1, 0),
+            U(1, 0),
+            U(1, 1),
+            U(1, 1),
+            Ue(0),
+            Ue(0),
+            Ue(8),
+            Ue(8),
+            reorder,
+            Ue(refs),
+        ],
+    )
+}
+
+fn flag(set: bool) -> Field
+    ensures field { result ≡ U 1 (digit set) }
+    ensures fits { FieldFits result }
+{
+    if set { U(1, 1) } else { U(1, 0) }
+}
+
+fn reorder_depth(reorder: bool) -> Field
+    ensures field { result ≡ Ue (digit reorder) }
+    ensures fits { FieldFits result }
+{
+    if reorder { Ue(1) } else { Ue(0) }
+}
+
+// How many macroblocks cover this many samples.
+fn macroblocks(samples: u32) -> u32
+    requires { samples ≤ 4096 }
+    ensures { result ≡ in_mbs samples }
+{
+    (samples + 15) / 16
+}
+
+// How many samples are added to a side so that macroblocks cover it.
+fn padded_by(samples: u32) -> u32
+    requires { samples ≤ 4096 }
+    ensures { result ≡ padding samples }
+{
+    16 * macroblocks(samples) - samples
+}
+
+#[tactic(auto, unfolding(spec_bits::specs::Heads::picture_fields))]
+fn put_picture(out: &mut BitBuf, cabac: bool, t8x8: bool) -> Result<(), Full>
+    ensures { Grows out.old out.new (fields_bits (picture_fields cabac t8x8)) result }
+{
+    let entropy = flag(cabac);
+    let transform8 = flag(t8x8);
+    put_fields(
+        out,
+        &[
+            Ue(0),
+            Ue(0),
+            entropy,
+            U(1, 0),
+            Ue(0),
+            Ue(0),
+            Ue(0),
+            U(1, 0),
+            U(2, 0),
+            Se(0),
+            Se(0),
+            Se(0),
+            U(1, 0),
+            U(1, 0),
+            U(1, 0),
+            transform8,
+            U(1, 0),
+            Se(0),
+        ],
+    )
+}
+
+// A slice header and the ones to the byte, or on `Full` maybe a part of it.
+fn put_slice_head(out: &mut BitBuf, head: &SliceHead) -> Result<(), Full>
+    requires allowed { IsSliceHead head.now }
+    requires empty { out.old.text ≡ [] }
+    ensures { Grows out.old out.new (slice_head_bits head.now) result }
+{
+    put_slice_fields(out, head)?;
+    put_ones(out, head.cabac)
+}
+
+fn put_slice_fields(out: &mut BitBuf, head: &SliceHead) -> Result<(), Full>
+    requires { IsSliceHead head.now }
+    ensures { Grows out.old out.new (fields_bits (slice_fields head.now)) result }
+{
+    put_place(out, head)?;
+    put_lists(out, head.kind, head.refs0, head.refs1, head.moved)?;
+    put_marking(out, head.idr, head.kind)?;
+    put_quantiser(out, head.cabac, head.kind, head.qp)
+}
+
+// Ones to the byte, where the arithmetic coder follows.
+fn put_ones(out: &mut BitBuf, cabac: bool) -> Result<(), Full>
+    ensures { Appends out.old out.new (replicate (if cabac then to_byte (length out.old.text) else 0) true) result }
+{
+    let count = ones_needed(out, cabac);
+    out.put(count, ones(count))
+}
+
+fn ones_needed(out: &BitBuf, cabac: bool) -> u8
+    ensures count { result ≡ (if cabac then to_byte (length out.now.text) else 0) }
+    ensures small { result < 8 }
+{
+    if cabac { out.bits_to_byte() } else { 0 }
+}
+
+fn ones(count: u8) -> u64
+    requires { count < 8 }
+    ensures { result ≡ 2 ^ count - 1 }
+{
+    (1 << count) - 1
+}
+
+#[tactic(auto, unfolding(spec_bits::specs::Heads::place_fields))]
+fn put_place(out: &mut BitBuf, head: &SliceHead) -> Result<(), Full>
+    requires { head.now.first_mb < 2 ^ 32 - 1 }
+    ensures { Grows out.old out.new (fields_bits (place_fields head.now)) result }
+{
+    let first = Ue(head.first_mb);
+    let kind = Ue(slice_type(head.kind));
+    let frame_num = U(16, head.frame_num as u32);
+    let poc = U(16, head.poc as u32);
+    if head.idr {
+        let idr_id = Ue(head.idr_id as u32);
+        return put_fields(out, &[first, kind, Ue(0), frame_num, idr_id, poc]);
+    }
+    put_fields(out, &[first, kind, Ue(0), frame_num, poc])
+}
+
+fn slice_type(kind: SliceKind) -> u32
+    ensures number { result ≡ kind_number kind }
+    ensures small { result < 8 }
+{
+    match kind {
+        SliceKind::I => 7,
+        SliceKind::P => 5,
+        SliceKind::B => 6,
+    }
+}
+
+#[tactic(auto, unfolding(spec_bits::specs::Heads::list_fields))]
+fn put_lists(
+    out: &mut BitBuf,
+    kind: SliceKind,
+    refs0: u8,
+    refs1: u8,
+    moved: Option<u16>,
+) -> Result<(), Full>
+    requires { HasLists kind refs0 refs1 }
+    ensures { Grows out.old out.new (fields_bits (list_fields kind refs0 refs1 moved)) result }
+{
+    match kind {
+        SliceKind::I => put_fields(out, &[]),
+        SliceKind::P => put_list(out, refs0, moved),
+        SliceKind::B => put_two_lists(out, refs0, refs1, moved),
+    }
+}
+
+fn put_list(out: &mut BitBuf, refs0: u8, moved: Option<u16>) -> Result<(), Full>
+    requires { 1 ≤ refs0 }
+    ensures { Grows out.old out.new (fields_bits (U 1 1 ∷ Ue (refs0 - 1) ∷ moved_fields moved)) result }
+{
+    put_fields(out, &[U(1, 1), Ue((refs0 - 1) as u32)])?;
+    put_moved(out, moved)
+}
+
+fn put_two_lists(out: &mut BitBuf, refs0: u8, refs1: u8, moved: Option<u16>) -> Result<(), Full>
+    requires refs0 { 1 ≤ refs0 }
+    requires refs1 { 1 ≤ refs1 }
+    ensures { Grows out.old out.new (fields_bits (U 1 1 ∷ U 1 1 ∷ Ue (refs0 - 1) ∷ Ue (refs1 - 1) ∷ (moved_fields moved ++ (U 1 0 ∷ [])))) result }
+{
+    let first = Ue((refs0 - 1) as u32);
+    let second = Ue((refs1 - 1) as u32);
+    put_fields(out, &[U(1, 1), U(1, 1), first, second])?;
+    put_moved(out, moved)?;
+    put_fields(out, &[U(1, 0)])
+}
+
+fn put_moved(out: &mut BitBuf, moved: Option<u16>) -> Result<(), Full>
+    ensures { Grows out.old out.new (fields_bits (moved_fields moved)) result }
+{
+    match moved {
+        None => put_fields(out, &[U(1, 0)]),
+        Some(difference) => put_fields(out, &[U(1, 1), Ue(0), Ue(difference as u32), Ue(3)]),
+    }
+}
+
+#[tactic(auto, unfolding(spec_bits::specs::Heads::marking_fields))]
+fn put_marking(out: &mut BitBuf, idr: bool, kind: SliceKind) -> Result<(), Full>
+    ensures { Grows out.old out.new (fields_bits (marking_fields idr kind)) result }
+{
+    match (idr, kind) {
+        (true, _) => put_fields(out, &[U(1, 0), U(1, 0)]),
+        (false, SliceKind::B) => put_fields(out, &[]),
+        (false, _) => put_fields(out, &[U(1, 0)]),
+    }
+}
+
+// cabac_init_idc and slice_qp_delta.
+#[tactic(auto, unfolding(spec_bits::specs::Heads::init_fields))]
+fn put_quantiser(out: &mut BitBuf, cabac: bool, kind: SliceKind, qp: u8) -> Result<(), Full>
+    requires { qp ≤ 51 }
+    ensures { Grows out.old out.new (fields_bits (init_fields cabac kind ++ (qp_field qp ∷ []))) result }
+{
+    let delta = Se(qp as i32 - 26);
+    match (cabac, kind) {
+        (false, _) => put_fields(out, &[delta]),
+        (true, SliceKind::I) => put_fields(out, &[delta]),
+        (true, _) => put_fields(out, &[Ue(0), delta]),
+    }
+}
+
+#[cfg(test)]
+mod tests {
+    use super::{SeqHead, SliceHead, SliceKind, write_pps, write_slice_head, write_sps};
+    use bit_strings::BitBuf;
+    use std::test::Fail;
+
+    #[test]
+    fn writes_heads_of_a_stored_picture(rt: HostRuntime) -> Result<(), Fail> {
+        let mut out = BitBuf::with_room(rt.alloc(), 16)?;
+        let sequence = SeqHead {
+            width: 16,
+            height: 16,
+            level: 51,
+            refs: 1,
+            timing: None,
+        };
+        write_sps(&mut out, &sequence)?;
+        out.trail()?;
+        assert!(rt; out.len() % 8 == 0);
+        assert_eq!(rt;
+            out.bytes(),
+            [0x64, 0, 0x33, 0xAC, 0x1B, 0x1A, 0x9E, 0x40].as_slice()
+        );
+        out.clear();
+        write_pps(&mut out, false, false)?;
+        out.trail()?;
+        assert!(rt; out.len() % 8 == 0);
+        assert_eq!(rt; out.bytes(), [0xCE, 0x38, 0x30].as_slice());
+        Ok(())
+    }
+
+    #[test]
+    fn writes_slice_headers(rt: HostRuntime) -> Result<(), Fail> {
+        let mut out = BitBuf::with_room(rt.alloc(), 16)?;
+        let first = SliceHead {
+            first_mb: 0,
+            kind: SliceKind::I,
+            idr: true,
+            frame_num: 0,
+            idr_id: 0,
+            poc: 0,
+            refs0: 0,
+            refs1: 0,
+            moved: None,
+            qp: 24,
+            cabac: true,
+        };
+        write_slice_head(&mut out, &first)?;
+        assert!(rt; out.len() % 8 == 0);
+        assert_eq!(rt;
+            out.bytes(),
+            [0x88, 0x80, 0, 0x40, 0, 0x02, 0xFF].as_slice()
+        );
+        out.clear();
+        let next = SliceHead {
+            first_mb: 0,
+            kind: SliceKind::P,
+            idr: false,
+            frame_num: 1,
+            idr_id: 0,
+            poc: 2,
+            refs0: 1,
+            refs1: 0,
+            moved: None,
+            qp: 26,
+            cabac: true,
+        };
+        write_slice_head(&mut out, &next)?;
+        assert!(rt; out.len() % 8 == 0);
+        assert_eq!(rt; out.bytes(), [0x9A, 0, 2, 0, 5, 0x9F].as_slice());
+        Ok(())
+    }
+}
