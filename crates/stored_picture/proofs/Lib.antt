@@ -1,0 +1,4 @@
+pub mod BlockText
+pub mod Fits
+pub mod Lengths
+pub mod Payloads

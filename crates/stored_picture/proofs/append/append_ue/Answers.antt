@@ -1,0 +1,9 @@
+use Rattle.std.proofs.Common.{◌≡◌, ◌+◌, ◌*◌, ◌≤◌, length, arith}
+use Rattle.spec_bits.specs.Bits.{digits, bits_of_bytes}
+use Rattle.spec_bits.specs.Golomb.{ue_bits, align_bits, to_byte}
+use Rattle.spec_bits.proofs.Digits.{length-digits, length-bits_of_bytes}
+use Rattle.stored_picture.proofs.Fits.{appended}
+use Rattle.stored_picture.proofs.append.append_ue.Goals as goal
+
+pub returns : goal.returns
+returns c = appended c.args.out.now c.ue.new.self (ue_bits c.args.value) c.ue.result c.ue.ensures (c.requires.room)
