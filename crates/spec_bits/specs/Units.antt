@@ -1,5 +1,5 @@
 -- NAL units: their bytes, and a stream of bytes taken apart into them (ITU-T H.264, clause 7.3.1 and Annex B).
-use Rattle.std.specs.Prelude.{ℕ, ◌+◌, ◌-◌, ◌*◌, ◌/◌, ◌%◌, ◌==◌, ◌&&◌, ◌<◌, nat_le, nat_lt, Bool, true, false, List, [], ◌∷◌, ◌++◌, length, get_or, Option, Some, None, replicate, if◌then◌else◌, option_and_then}
+use Rattle.std.specs.Prelude.{ℕ, ◌+◌, ◌-◌, ◌*◌, ◌/◌, ◌%◌, ◌==◌, ◌&&◌, ◌<◌, ◌≤◌, nat_le, nat_lt, Bool, true, false, List, [], ◌∷◌, ◌++◌, length, get_or, Option, Some, None, replicate, if◌then◌else◌, option_and_then}
 use Rattle.std.specs.Option.{option_map}
 
 -- how many bytes 00 stand before the next byte
@@ -84,3 +84,14 @@ nals_of (unit ∷ units) = option_and_then (λ nal. option_map (λ nals. nal ∷
 -- A unit may have an empty payload. Bytes of no such form give nothing.
 unfoldable pub units_of : List ℕ → Option (List Nal)
 units_of bytes = option_and_then (λ parts. elim parts.0 [ [] ↦ nals_of parts.1 | b ∷ rest ↦ None ]) (parted 0 bytes)
+
+-- a unit that can be written
+pub record IsNal (n : Nal) : Type 0 where
+  pub ref_idc : n.ref_idc ≤ 3
+  pub kind_from : 1 ≤ n.kind
+  pub kind_to : n.kind ≤ 31
+  pub ends : EndsWell n.payload
+
+-- a unit's bytes behind a start code, of four bytes where it is long
+abbrev pub written : Bool × Nal → List ℕ
+written u = unit_bytes u.0 u.1.ref_idc u.1.kind u.1.payload
