@@ -1,11 +1,11 @@
 -- Units are read back.
-use Rattle.std.proofs.Common.{ℕ, zero, suc, ◌≡◌, ◌+◌, ◌-◌, ◌*◌, ◌/◌, ◌%◌, ◌<◌, ◌≤◌, Bool, true, false, List, [], ◌∷◌, ◌++◌, length, get_or, refl, sym, ap, ap₂, subst, ◌∙◌, arith, Option, Some, None, append_assoc, append-nil, replicate}
-use Rattle.std.specs.Prelude.{nat_le, nat_lt, ◌&&◌, ◌==◌, cond, option_and_then, if◌then◌else◌, map}
+use Rattle.std.proofs.Common.{ℕ, zero, suc, ◌≡◌, ◌+◌, ◌-◌, ◌<◌, ◌≤◌, Bool, true, false, List, [], ◌∷◌, ◌++◌, length, get_or, refl, sym, ap, ap₂, subst, ◌∙◌, arith, Option, Some, None, append_assoc, append-nil, replicate}
+use Rattle.std.specs.Prelude.{nat_le, nat_lt, ◌&&◌, ◌==◌, cond, option_and_then, map}
 use Rattle.std.specs.Option.{option_map}
 use Rattle.std.specs.List.{flat_map, All}
 use Rattle.std.proofs.lemmas.Bool.Decides.{nat_tests}
 use Rattle.std.proofs.lemmas.List.Elements.{All-head, All-tail}
-use Rattle.spec_bits.specs.Units.{escape, unescape, small_next, zeros_after, parted, with_bytes, begun, start_code, header_byte, unit_bytes, units_of, nal_of, nals_of, Nal, EndsWell, IsNal, written}
+use Rattle.spec_bits.specs.Units.{escape, unescape, small_next, zeros_after, parted, with_bytes, begun, start_code, header_byte, unit_bytes, units_of, nal_of, nals_of, Nal, IsNal, written}
 use Rattle.spec_bits.proofs.Escapes.{escape-none, escape-put, escape-keep}
 
 -- ---- payloads
@@ -17,9 +17,11 @@ unescape-escape before (b ∷ bytes) = go (nat_le 2 before) (nat_le b 3) refl re
   where
     apart : (b : ℕ) → nat_le b 3 ≡ false → (b == 3) ≡ false
     apart b h = grind (arith, nat_tests)
+
     skip : (u : Bool) (x y : List ℕ) (w : Bool) → cond (u && false && w) x y ≡ y
     skip true x y w = refl
     skip false x y w = refl
+
     go : (two small : Bool) → nat_le 2 before ≡ two → nat_le b 3 ≡ small
         → unescape (zeros_after 0 b) (escape (zeros_after 0 b) bytes) ≡ bytes → unescape (zeros_after before b) (escape (zeros_after before b) bytes) ≡ bytes
         → unescape before (cond (two && small) (3 ∷ b ∷ escape (zeros_after 0 b) bytes) (b ∷ escape (zeros_after before b) bytes)) ≡ b ∷ bytes
@@ -147,7 +149,7 @@ claim : (before : ℕ) (bytes rest : List ℕ) → before ≤ 2 → Ends bytes �
 unfolding Claim
 claim before [] rest h e k =
     subst (λ z. parted z (escape z [] ++ rest) ≡ option_map (ahead (replicate z 0 ++ escape z [])) (parted 0 rest)) (sym (k refl))
-      (ap (λ l. parted 0 (l ++ rest)) (escape-none 0) ∙ nothing_ahead (parted 0 rest) ∙ ap (λ l. option_map (ahead l) (parted 0 rest)) (sym (escape-none 0)))
+    (ap (λ l. parted 0 (l ++ rest)) (escape-none 0) ∙ nothing_ahead (parted 0 rest) ∙ ap (λ l. option_map (ahead l) (parted 0 rest)) (sym (escape-none 0)))
 claim before (b ∷ bytes) rest h e k = go (nat_le 2 before && nat_le b 3) refl (λ z l m. claim z bytes rest l (ends_tail b bytes e) m)
   where
     go : (t : Bool) → (nat_le 2 before && nat_le b 3) ≡ t → ((z : ℕ) → z ≤ 2 → (length bytes ≡ 0 → z ≡ 0) → Claim z bytes rest) → Claim before (b ∷ bytes) rest
@@ -176,7 +178,7 @@ unit_parted u rest h =
     ap (λ l. parted 0 l) (append_assoc (start_code u.0) (header ∷ escape 0 u.1.payload) rest)
     ∙ parted-start u.0 (header ∷ (escape 0 u.1.payload ++ rest))
     ∙ ap (λ o. option_map begun o)
-        (middle_byte 0 header (escape 0 u.1.payload) rest (omega arith) nonzero (λ k. absurd (omega arith)) (claim 0 u.1.payload rest (omega arith) (ends_from u.1.payload h.ends.last) (λ _. refl)))
+    (middle_byte 0 header (escape 0 u.1.payload) rest (omega arith) nonzero (λ k. absurd (omega arith)) (claim 0 u.1.payload rest (omega arith) (ends_from u.1.payload h.ends.last) (λ _. refl)))
     ∙ map_map begun (ahead (header ∷ escape 0 u.1.payload)) (parted 0 rest)
   where
     above : (n : ℕ) → 0 < n → (n == 0) ≡ false

@@ -26,9 +26,13 @@ start_code true = 0 ∷ 0 ∷ 0 ∷ 1 ∷ []
 unfoldable pub unit_bytes : Bool → ℕ → ℕ → List ℕ → List ℕ
 unit_bytes long ref_idc kind payload = start_code long ++ (header_byte ref_idc kind ∷ escape 0 payload)
 
+-- the payload of a filler unit of n bytes
+abbrev pub filler_payload : ℕ → List ℕ
+filler_payload n = replicate (n - 5) 255 ++ (128 ∷ [])
+
 -- a unit of filler data of n bytes, from 5 on: bytes FF and the trailing bits (clause 7.3.2.7)
 unfoldable pub filler_unit : ℕ → List ℕ
-filler_unit n = unit_bytes false 0 12 (replicate (n - 5) 255 ++ (128 ∷ []))
+filler_unit n = unit_bytes false 0 12 (filler_payload n)
 
 -- a payload's last byte isn't 00, as trailing bits see to; it may be empty
 pub record EndsWell (payload : List ℕ) : Type 0 where
