@@ -1,0 +1,2 @@
+//! Heads read from bits, as the syntax tables read them: definitions.
+#![tactic(auto)]
