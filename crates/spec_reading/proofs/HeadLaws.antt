@@ -11,9 +11,11 @@ use Rattle.enc_tables.specs.declared.records.SliceKind.TheVariants.{I}
 use Rattle.spec_bits.specs.Bits.{digit, digits}
 use Rattle.spec_bits.specs.Golomb.{ue_bits, se_bits, signed_place}
 use Rattle.spec_bits.specs.Fields.{field_bits, fields_bits}
-use Rattle.spec_bits.specs.Heads.{picture_fields}
+use Rattle.spec_bits.specs.Heads.{picture_fields, sequence_fields, format_fields, cropping_fields, usability_fields, padding, in_mbs}
+use Rattle.spec_bits.specs.Allowed.{IsSeqHead}
+use Rattle.spec_bits.proofs.FieldLists.{fields_bits-append}
 use Rattle.spec_reading.specs.Reader.{Reader, done, nothing, bit, ◌>>=◌, read, u, ue, se, only, fixed, flag}
-use Rattle.spec_reading.specs.HeadReaders.{picture}
+use Rattle.spec_reading.specs.HeadReaders.{picture, cropped, cropping, sequence, quantiser, idr_slice, idr_head}
 use Rattle.spec_reading.proofs.Laws.{Reads, reads_then, reads_done, reads_u, reads_ue, reads_se, reads_fixed, reads_flag}
 
 -- one field more in front
@@ -55,3 +57,82 @@ reads_picture entropy transform8 =
     (signed_zero _ _ b (signed_zero _ _ b (signed_zero _ _ b
     (one_number 1 0 _ _ b (omega arith) (one_number 1 0 _ _ b (omega arith) (one_number 1 0 _ _ b (omega arith)
     (one_flag transform8 _ _ b (one_number 1 0 _ _ b (omega arith) (signed_zero _ _ b (over b))))))))))))))))))
+
+-- a test that passes
+passed : {B : Type 0} (t : Bool) (g : Unit {0} → Reader B) (bits : List Bool) (b : B) → t ≡ true → Reads (g tt) bits b → Reads (only t >>= g) bits b
+passed t g bits b e h = subst (λ s. Reads (only s >>= g) bits b) (sym e) h
+
+-- fields in two parts
+two_parts : {A B : Type 0} (f : Reader A) (g : A → Reader B) (xs ys : List Field) (a : A) (b : B) → Reads f (fields_bits xs) a → Reads (g a) (fields_bits ys) b → Reads (f >>= g) (fields_bits (xs ++ ys)) b
+two_parts f g xs ys a b h k = subst (λ bits. Reads (f >>= g) bits b) (sym (fields_bits-append xs ys)) (reads_then f g (fields_bits xs) (fields_bits ys) a b h k)
+
+over_same : {B : Type 0} (a b : B) → a ≡ b → Reads (done a) (fields_bits []) b
+over_same a b e = subst (λ x. Reads (done a) (fields_bits []) x) e (over a)
+
+-- ---- cropping
+
+is_le : (m n : ℕ) → m ≤ n → nat_le m n ≡ true
+is_le m n h = grind (arith, nat_tests)
+
+all_three : (p q r : Bool) → p ≡ true → q ≡ true → r ≡ true → (p && q && r) ≡ true
+all_three p q r a b c = rw (a, b, c) refl
+
+both : (p q : Bool) → p ≡ true → q ≡ true → (p && q) ≡ true
+both p q a b = rw (a, b) refl
+
+reads_cropping : (w h : ℕ) → w % 2 ≡ 0 → h % 2 ≡ 0 → Reads cropping (fields_bits (cropping_fields w h)) (padding w, padding h)
+unfolding cropping cropping_fields
+reads_cropping w h even even' = go (padding w == 0) (padding h == 0) refl refl
+  where
+    offsets : ℕ × ℕ
+    offsets = (padding w, padding h)
+
+    none : (n : ℕ) → (n == 0) ≡ true → n ≡ 0
+    none n e = grind (arith, nat_tests)
+
+    some : (n : ℕ) → (n == 0) ≡ false → 0 < n
+    some n e = grind (arith, nat_tests)
+
+    set : 1 ≤ padding w / 2 + padding h / 2 → Reads (flag >>= λ set. cropped set) (fields_bits (U 1 1 ∷ Ue 0 ∷ Ue (padding w / 2) ∷ Ue 0 ∷ Ue (padding h / 2) ∷ [])) (padding w, padding h)
+    set one =
+        let b : ℕ × ℕ = (padding w, padding h) in
+        one_flag true _ _ b (one_code 0 _ _ b (omega arith) (code (padding w / 2) _ _ b (omega arith) (one_code 0 _ _ b (omega arith) (code (padding h / 2) _ _ b (omega arith)
+        (passed (nat_le (padding w / 2) 7 && nat_le (padding h / 2) 7 && nat_le 1 (padding w / 2 + padding h / 2)) _ _ b
+        (all_three _ _ _ (is_le (padding w / 2) 7 (omega arith)) (is_le (padding h / 2) 7 (omega arith)) (is_le 1 (padding w / 2 + padding h / 2) one))
+        (over_same (2 * (padding w / 2), 2 * (padding h / 2)) b (ap₂ (λ x y. let p : ℕ × ℕ = (x, y) in p) (omega arith) (omega arith))))))))
+
+    go : (p q : Bool) → (padding w == 0) ≡ p → (padding h == 0) ≡ q
+        → Reads (flag >>= λ set. cropped set) (fields_bits (if p && q then U 1 0 ∷ [] else U 1 1 ∷ Ue 0 ∷ Ue (padding w / 2) ∷ Ue 0 ∷ Ue (padding h / 2) ∷ [])) (padding w, padding h)
+    go true true p q =
+        let b : ℕ × ℕ = (padding w, padding h) in
+        let z : ℕ × ℕ = (0, 0) in
+        one_flag false _ _ b (over_same z b (ap₂ (λ x y. let r : ℕ × ℕ = (x, y) in r) (sym (none (padding w) p)) (sym (none (padding h) q))))
+    go true false p q = set (omega (arith, some (padding h) q))
+    go false q p r = set (omega (arith, some (padding w) p))
+
+-- ---- sequence parameter sets
+
+same_head : (h : SeqHead) (w v l r : ℕ) → w ≡ h.width → v ≡ h.height → l ≡ h.level → r ≡ h.refs → None ≡ h.timing → (let x : SeqHead = record { width = w; height = v; level = l; refs = r; timing = None } in x ≡ h)
+same_head h w v l r a b c d e =
+    ap (λ x. let y : SeqHead = record { width = x; height = v; level = l; refs = r; timing = None } in y) a
+    ∙ ap (λ x. let y : SeqHead = record { width = h.width; height = x; level = l; refs = r; timing = None } in y) b
+    ∙ ap (λ x. let y : SeqHead = record { width = h.width; height = h.height; level = x; refs = r; timing = None } in y) c
+    ∙ ap (λ x. let y : SeqHead = record { width = h.width; height = h.height; level = h.level; refs = x; timing = None } in y) d
+    ∙ ap (λ x. let y : SeqHead = record { width = h.width; height = h.height; level = h.level; refs = h.refs; timing = x } in y) e
+
+pub reads_sequence : (h : SeqHead) → IsSeqHead h → h.level < 256 → h.timing ≡ None → Reads sequence (fields_bits (sequence_fields h)) h
+unfolding sequence sequence_fields format_fields usability_fields
+reads_sequence h k level none =
+    one_number 8 100 _ _ h (omega arith) (one_number 8 0 _ _ h (omega arith) (number 8 h.level _ _ h level (one_code 0 _ _ h (omega arith)
+    (one_code 1 _ _ h (omega arith) (one_code 0 _ _ h (omega arith) (one_code 0 _ _ h (omega arith)
+    (one_number 1 0 _ _ h (omega arith) (one_number 1 0 _ _ h (omega arith)
+    (one_code 12 _ _ h (omega arith) (one_code 0 _ _ h (omega arith) (one_code 12 _ _ h (omega arith)
+    (code h.refs _ _ h (omega (arith, k.refs_to)) (passed (nat_le 1 h.refs && nat_le h.refs 4) _ _ h (both _ _ (is_le 1 h.refs k.refs_from) (is_le h.refs 4 k.refs_to))
+    (one_number 1 0 _ _ h (omega arith)
+    (code (in_mbs h.width - 1) _ _ h (omega (arith, k.width_to)) (passed (nat_le (in_mbs h.width - 1) 255) _ _ h (is_le _ _ (omega (arith, k.width_to)))
+    (code (in_mbs h.height - 1) _ _ h (omega (arith, k.height_to)) (passed (nat_le (in_mbs h.height - 1) 143) _ _ h (is_le _ _ (omega (arith, k.height_to)))
+    (one_number 1 1 _ _ h (omega arith) (one_number 1 1 _ _ h (omega arith)
+    (two_parts cropping _ (cropping_fields h.width h.height) (usability_fields h.refs h.timing) (padding h.width, padding h.height) h (reads_cropping h.width h.height k.width_even k.height_even)
+    (subst (λ t. Reads (fixed (u 1) 0 >>= λ _. done (record { width = 16 * (in_mbs h.width - 1 + 1) - padding h.width; height = 16 * (in_mbs h.height - 1 + 1) - padding h.height; level = h.level; refs = h.refs; timing = None })) (fields_bits (usability_fields h.refs t)) h) (sym none)
+    (one_number 1 0 _ _ h (omega arith) (over_same _ h
+    (same_head h _ _ _ _ (omega (arith, k.width_from)) (omega (arith, k.height_from)) refl refl (sym none))))))))))))))))))))))))))

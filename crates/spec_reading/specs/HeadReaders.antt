@@ -71,3 +71,8 @@ idr_slice cabac =
     -- slice_qp_delta
     se >>= λ delta. quantiser (pos 26 +ℤ delta) >>= λ qp.
     done (record { first_mb = first_mb; kind = I; idr = true; frame_num = frame_num; idr_id = idr_id; poc = poc; refs0 = 0; refs1 = 0; moved = None; qp = qp; cabac = cabac })
+
+-- the header of a slice of an IDR picture
+unfoldable pub idr_head : ℕ → ℕ → ℕ → ℕ → ℕ → Bool → SliceHead
+idr_head first_mb frame_num idr_id poc qp cabac =
+    record { first_mb = first_mb; kind = I; idr = true; frame_num = frame_num; idr_id = idr_id; poc = poc; refs0 = 0; refs1 = 0; moved = None; qp = qp; cabac = cabac }
