@@ -11,7 +11,7 @@ use Rattle.enc_tables.specs.declared.records.SliceKind.TheVariants.{I}
 use Rattle.spec_bits.specs.Bits.{digit, digits}
 use Rattle.spec_bits.specs.Golomb.{ue_bits, se_bits, signed_place}
 use Rattle.spec_bits.specs.Fields.{field_bits, fields_bits}
-use Rattle.spec_bits.specs.Heads.{picture_fields, sequence_fields, format_fields, cropping_fields, usability_fields, padding, in_mbs}
+use Rattle.spec_bits.specs.Heads.{picture_fields, sequence_fields, format_fields, cropping_fields, usability_fields, padding, in_mbs, place_fields, list_fields, marking_fields, init_fields, slice_fields}
 use Rattle.spec_bits.specs.Allowed.{IsSeqHead}
 use Rattle.spec_bits.proofs.FieldLists.{fields_bits-append}
 use Rattle.spec_reading.specs.Reader.{Reader, done, nothing, bit, ◌>>=◌, read, u, ue, se, only, fixed, flag}
@@ -136,3 +136,41 @@ reads_sequence h k level none =
     (subst (λ t. Reads (fixed (u 1) 0 >>= λ _. done (record { width = 16 * (in_mbs h.width - 1 + 1) - padding h.width; height = 16 * (in_mbs h.height - 1 + 1) - padding h.height; level = h.level; refs = h.refs; timing = None })) (fields_bits (usability_fields h.refs t)) h) (sym none)
     (one_number 1 0 _ _ h (omega arith) (over_same _ h
     (same_head h _ _ _ _ (omega (arith, k.width_from)) (omega (arith, k.height_from)) refl refl (sym none))))))))))))))))))))))))))
+
+-- ---- slice headers
+
+-- the difference from 26 gives the parameter back
+qp_back : (qp : ℕ) → pos 26 +ℤ (pos qp -ℤ pos 26) ≡ pos qp
+qp_back qp = omega (arith, ints)
+
+place_small : (z : ℤ) (qp : ℕ) → pos 26 +ℤ z ≡ pos qp → qp ≤ 51 → signed_place z < 2 ^ 32 - 1
+place_small (pos zero) qp e h = omega arith
+place_small (pos (suc n)) qp e h = omega (arith, ints, e)
+place_small (negsuc n) qp e h = omega (arith, ints, e)
+
+-- a signed number in front
+signed : {B : Type 0} (z : ℤ) (g : ℤ → Reader B) (fields : List Field) (b : B) → signed_place z < 2 ^ 32 - 1 → Reads (g z) (fields_bits fields) b → Reads (se >>= g) (fields_bits (Se z ∷ fields)) b
+unfolding fields_bits
+signed z g fields b h k = reads_then se g (se_bits z) (fields_bits fields) z b (reads_se z h) k
+
+reads_quantiser : {B : Type 0} (z : ℤ) (qp : ℕ) (g : ℕ → Reader B) (bits : List Bool) (b : B) → pos 26 +ℤ z ≡ pos qp → qp ≤ 51 → Reads (g qp) bits b → Reads (quantiser (pos 26 +ℤ z) >>= g) bits b
+reads_quantiser z qp g bits b e h k =
+    subst (λ x. Reads (quantiser x >>= g) bits b) (sym e) (subst (λ s. Reads ((only s >>= λ _. done qp) >>= g) bits b) (sym (is_le qp 51 h)) k)
+
+no_init : (cabac : Bool) → init_fields cabac I ≡ []
+unfolding init_fields
+no_init true = refl
+no_init false = refl
+
+pub reads_idr_slice : (first_mb frame_num idr_id poc qp : ℕ) (cabac : Bool) → first_mb < 2 ^ 32 - 1 → frame_num < 2 ^ 16 → idr_id ≤ 1 → poc < 2 ^ 16 → qp ≤ 51
+    → Reads (idr_slice cabac) (fields_bits (slice_fields (idr_head first_mb frame_num idr_id poc qp cabac))) (idr_head first_mb frame_num idr_id poc qp cabac)
+unfolding idr_slice idr_head slice_fields place_fields list_fields marking_fields
+reads_idr_slice first_mb frame_num idr_id poc qp cabac a b c d e =
+    let h : SliceHead = record { first_mb = first_mb; kind = I; idr = true; frame_num = frame_num; idr_id = idr_id; poc = poc; refs0 = 0; refs1 = 0; moved = None; qp = qp; cabac = cabac } in
+    let z : ℤ = pos qp -ℤ pos 26 in
+    code first_mb _ _ h a (one_code 7 _ _ h (omega arith) (one_code 0 _ _ h (omega arith) (number 16 frame_num _ _ h b
+    (code idr_id _ _ h (omega arith) (passed (nat_le idr_id 1) _ _ h (is_le idr_id 1 c) (number 16 poc _ _ h d
+    (one_number 1 0 _ _ h (omega arith) (one_number 1 0 _ _ h (omega arith)
+    (subst (λ init. Reads (se >>= λ delta. quantiser (pos 26 +ℤ delta) >>= λ q. done (record h { qp = q })) (fields_bits (init ++ (Se z ∷ []))) h) (sym (no_init cabac))
+    (signed z _ _ h (place_small z qp (qp_back qp) e)
+    (reads_quantiser z qp (λ q. done (record h { qp = q })) _ h (qp_back qp) e (over h))))))))))))
