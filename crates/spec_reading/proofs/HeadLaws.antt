@@ -1,5 +1,5 @@
 -- The heads are read back.
-use Rattle.std.proofs.Common.{ℕ, zero, suc, ◌≡◌, ◌+◌, ◌-◌, ◌*◌, ◌/◌, ◌%◌, ◌^◌, ◌<◌, ◌≤◌, Bool, true, false, List, [], ◌∷◌, ◌++◌, Option, Some, None, refl, sym, ap, ap₂, subst, ◌∙◌, arith, append-nil}
+use Rattle.std.proofs.Common.{ℕ, zero, suc, ◌≡◌, ◌+◌, ◌-◌, ◌*◌, ◌/◌, ◌%◌, ◌^◌, ◌<◌, ◌≤◌, Bool, true, false, List, [], ◌∷◌, ◌++◌, None, refl, sym, ap, ap₂, subst, ◌∙◌, arith}
 use Rattle.std.specs.Prelude.{◌==◌, ◌&&◌, nat_le, ℤ, pos, negsuc, ◌+ℤ◌, ◌-ℤ◌, if◌then◌else◌}
 use Rattle.std.proofs.lemmas.Bool.Decides.{nat_tests}
 use Rattle.std.proofs.lemmas.Int.{ints}
@@ -10,13 +10,13 @@ use Rattle.spec_bits.specs.declared.heads.SliceHead.{SliceHead}
 use Rattle.enc_tables.specs.declared.records.SliceKind.TheVariants.{I}
 use Rattle.spec_bits.specs.Bits.{digit, digits}
 use Rattle.spec_bits.specs.Golomb.{ue_bits, se_bits, signed_place}
-use Rattle.spec_bits.specs.Fields.{field_bits, fields_bits}
+use Rattle.spec_bits.specs.Fields.{fields_bits}
 use Rattle.spec_bits.specs.Heads.{picture_fields, sequence_fields, format_fields, cropping_fields, usability_fields, padding, in_mbs, place_fields, list_fields, marking_fields, init_fields, slice_fields}
 use Rattle.spec_bits.specs.Allowed.{IsSeqHead}
 use Rattle.spec_bits.proofs.FieldLists.{fields_bits-append}
-use Rattle.spec_reading.specs.Reader.{Reader, done, nothing, bit, ◌>>=◌, read, u, ue, se, only, fixed, flag}
+use Rattle.spec_reading.specs.Reader.{Reader, done, ◌>>=◌, u, ue, se, only, fixed, flag, Reads}
 use Rattle.spec_reading.specs.HeadReaders.{picture, cropped, cropping, sequence, quantiser, idr_slice, idr_head}
-use Rattle.spec_reading.proofs.Laws.{Reads, reads_then, reads_done, reads_u, reads_ue, reads_se, reads_fixed, reads_flag}
+use Rattle.spec_reading.proofs.Laws.{reads_then, reads_done, reads_u, reads_ue, reads_se, reads_fixed, reads_flag}
 
 -- one field more in front
 number : {B : Type 0} (n v : ℕ) (g : ℕ → Reader B) (fields : List Field) (b : B) → v < 2 ^ n → Reads (g v) (fields_bits fields) b → Reads (u n >>= g) (fields_bits (U n v ∷ fields)) b

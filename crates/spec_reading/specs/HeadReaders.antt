@@ -1,10 +1,10 @@
 -- The heads of a stream without usability information, read in the order of the syntax tables (ITU-T H.264, clauses 7.3.2 and 7.3.3).
 -- A value that such a stream doesn't have there gives nothing.
-use Rattle.std.specs.Prelude.{ℕ, ◌+◌, ◌-◌, ◌*◌, ◌&&◌, ◌==◌, nat_le, Bool, true, false, Option, None, ℤ, pos, negsuc, ◌+ℤ◌}
+use Rattle.std.specs.Prelude.{ℕ, ◌+◌, ◌-◌, ◌*◌, ◌&&◌, nat_le, Bool, true, false, None, ℤ, pos, negsuc, ◌+ℤ◌}
 use Rattle.spec_bits.specs.declared.heads.SeqHead.{SeqHead}
 use Rattle.spec_bits.specs.declared.heads.SliceHead.{SliceHead}
 use Rattle.enc_tables.specs.declared.records.SliceKind.TheVariants.{I}
-use Rattle.spec_reading.specs.Reader.{Reader, done, nothing, bit, ◌>>=◌, u, ue, se, only, fixed, flag}
+use Rattle.spec_reading.specs.Reader.{Reader, done, nothing, ◌>>=◌, u, ue, se, only, fixed, flag}
 
 -- how many samples are cropped at the right and at the bottom
 abbrev pub cropped : Bool → Reader (ℕ × ℕ)
