@@ -3,4 +3,4 @@
 
 mod units;
 
-pub use units::{filler, unit, unit_bits};
+pub use units::{filler, unit, unit_bits, units_are_read_back};

@@ -1,7 +1,8 @@
 // Start code, header byte, and the payload with its 03 bytes.
-ghost use Rattle.std.specs.Prelude.{◌≡◌, ℕ, ◌+◌, ◌-◌, ◌*◌, ◌^◌, ◌%◌, ◌<◌, ◌≤◌, ◌++◌, ◌∷◌, [], length, replicate, cond, false, ◌&&◌, nat_le};
+ghost use Rattle.std.specs.Prelude.{◌≡◌, ℕ, ◌+◌, ◌-◌, ◌*◌, ◌^◌, ◌%◌, ◌<◌, ◌≤◌, ◌++◌, ◌∷◌, [], length, replicate, cond, Bool, List, map, false, ◌&&◌, nat_le};
+ghost use Rattle.std.specs.List.{All, flat_map};
 ghost use Rattle.spec_bits.specs.Bits.{bits_of_bytes};
-ghost use Rattle.spec_bits.specs.Units.{escape, unit_bytes, filler_unit, header_byte, start_code, zeros_after, EndsWell};
+ghost use Rattle.spec_bits.specs.Units.{escape, unit_bytes, filler_unit, header_byte, start_code, zeros_after, EndsWell, Nal, IsNal, written, units_of, filler_payload};
 ghost use Rattle.bit_strings.specs.BitText.{Appends};
 ghost use Rattle.nal_writer.specs.Runs.{IsRun, Grows};
 
@@ -55,6 +56,16 @@ pub fn filler(out: &mut BitBuf, bytes: u32) -> Result<(), Full>
     }
     Ok(())
 }
+
+/// Units are read back: a stream of them, with start codes of either length, has exactly these units. A filler unit is one of them.
+pub fn units_are_read_back()
+    ensures units { (us : List (Bool × Nal)) → All (λ u. IsNal u.1) us
+        → units_of (flat_map written us) ≡ Some (map (λ u. u.1) us) }
+    ensures filler { (n : ℕ) → (nal : Nal)
+        × (nal.payload ≡ filler_payload n)
+        × IsNal nal
+        × (filler_unit n ≡ written (false, nal)) }
+{}
 
 // A unit, or on `Full` maybe a part of it.
 fn put_unit(out: &mut BitBuf, header: u8, payload: &[u8], long_start: bool) -> Result<(), Full>

@@ -1,11 +1,10 @@
 -- Laws of the 03 bytes.
-use Rattle.std.proofs.Common.{ℕ, zero, suc, ◌≡◌, ◌+◌, ◌-◌, ◌*◌, ◌<◌, ◌≤◌, ◌==◌, Bool, true, false, List, [], ◌∷◌, ◌++◌, length, refl, sym, ap, ◌∙◌, arith, replicate}
-use Rattle.std.specs.Prelude.{nat_le, ◌&&◌, cond}
+use Rattle.std.proofs.Common.{ℕ, ◌≡◌, ◌<◌, Bool, true, false, List, [], ◌∷◌, ◌++◌, refl, ap, ◌∙◌, arith, replicate}
+use Rattle.std.specs.Prelude.{nat_le, ◌&&◌}
 use Rattle.std.specs.List.{All}
 use Rattle.std.proofs.lemmas.Bool.Decides.{nat_tests}
 use Rattle.std.proofs.lemmas.List.Elements.{All-nil, All-cons, All-head, All-tail, All-append, All-replicate}
-use Rattle.spec_bits.specs.Bits.{IsByte}
-use Rattle.spec_bits.specs.Units.{escape, zeros_after, unit_bytes, filler_unit, start_code}
+use Rattle.spec_bits.specs.Units.{escape, zeros_after}
 
 pub escape-none : (before : ℕ) → escape before [] ≡ []
 unfolding escape

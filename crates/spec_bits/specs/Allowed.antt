@@ -1,5 +1,5 @@
 -- Which values the fields of heads may have.
-use Rattle.std.specs.Prelude.{ℕ, ◌+◌, ◌-◌, ◌*◌, ◌%◌, ◌^◌, ◌<◌, ◌≤◌, ◌≡◌, Bool, true, List, [], ◌∷◌, ℤ, negsuc, ◌<ℤ◌, Option, Some, None, IfSome}
+use Rattle.std.specs.Prelude.{ℕ, ◌-◌, ◌%◌, ◌^◌, ◌<◌, ◌≤◌, ◌≡◌, true, List, [], ◌∷◌, negsuc, ◌<ℤ◌, IfSome}
 use Rattle.spec_bits.specs.declared.heads.Field.{Field}
 use Rattle.spec_bits.specs.declared.heads.Field.TheVariants.{U, Ue, Se}
 use Rattle.spec_bits.specs.declared.heads.SeqHead.{SeqHead}

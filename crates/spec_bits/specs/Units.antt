@@ -1,5 +1,5 @@
 -- NAL units: their bytes, and a stream of bytes taken apart into them (ITU-T H.264, clause 7.3.1 and Annex B).
-use Rattle.std.specs.Prelude.{ℕ, ◌+◌, ◌-◌, ◌*◌, ◌/◌, ◌%◌, ◌==◌, ◌&&◌, ◌<◌, nat_le, nat_lt, Bool, true, false, List, [], ◌∷◌, ◌++◌, length, get_or, Option, Some, None, replicate, if◌then◌else◌, option_and_then}
+use Rattle.std.specs.Prelude.{ℕ, ◌+◌, ◌-◌, ◌*◌, ◌/◌, ◌%◌, ◌==◌, ◌&&◌, ◌<◌, ◌≤◌, nat_le, nat_lt, Bool, true, false, List, [], ◌∷◌, ◌++◌, length, get_or, Option, Some, None, replicate, if◌then◌else◌, option_and_then}
 use Rattle.std.specs.Option.{option_map}
 
 -- how many bytes 00 stand before the next byte
@@ -26,9 +26,13 @@ start_code true = 0 ∷ 0 ∷ 0 ∷ 1 ∷ []
 unfoldable pub unit_bytes : Bool → ℕ → ℕ → List ℕ → List ℕ
 unit_bytes long ref_idc kind payload = start_code long ++ (header_byte ref_idc kind ∷ escape 0 payload)
 
+-- the payload of a filler unit of n bytes
+abbrev pub filler_payload : ℕ → List ℕ
+filler_payload n = replicate (n - 5) 255 ++ (128 ∷ [])
+
 -- a unit of filler data of n bytes, from 5 on: bytes FF and the trailing bits (clause 7.3.2.7)
 unfoldable pub filler_unit : ℕ → List ℕ
-filler_unit n = unit_bytes false 0 12 (replicate (n - 5) 255 ++ (128 ∷ []))
+filler_unit n = unit_bytes false 0 12 (filler_payload n)
 
 -- a payload's last byte isn't 00, as trailing bits see to; it may be empty
 pub record EndsWell (payload : List ℕ) : Type 0 where
@@ -84,3 +88,14 @@ nals_of (unit ∷ units) = option_and_then (λ nal. option_map (λ nals. nal ∷
 -- A unit may have an empty payload. Bytes of no such form give nothing.
 unfoldable pub units_of : List ℕ → Option (List Nal)
 units_of bytes = option_and_then (λ parts. elim parts.0 [ [] ↦ nals_of parts.1 | b ∷ rest ↦ None ]) (parted 0 bytes)
+
+-- a unit that can be written
+pub record IsNal (n : Nal) : Type 0 where
+  pub ref_idc : n.ref_idc ≤ 3
+  pub kind_from : 1 ≤ n.kind
+  pub kind_to : n.kind ≤ 31
+  pub ends : EndsWell n.payload
+
+-- a unit's bytes behind a start code, of four bytes where it is long
+abbrev pub written : Bool × Nal → List ℕ
+written u = unit_bytes u.0 u.1.ref_idc u.1.kind u.1.payload
