@@ -12,12 +12,14 @@ Rose before now = min (before + 1) (2 ^ 64 - 1) ≤ now
 pub record OpeningFailed (place : Place) (old new : Seen) : Type 0 where
   pub rose : Rose (spot_at place old).opening (spot_at place new).opening
   pub never_falls : (spot_at place old).opening ≤ (spot_at place new).opening
+  pub ends : (spot_at place new).opening ≤ 2 ^ 64 - 1
   pub else_same : new ≡ with_spot place (record (spot_at place old) { opening = (spot_at place new).opening }) old
 
 -- a later call on the place failed: its count of later faults rose, and nothing else changed
 pub record LaterFailed (place : Place) (old new : Seen) : Type 0 where
   pub rose : Rose (spot_at place old).later (spot_at place new).later
   pub never_falls : (spot_at place old).later ≤ (spot_at place new).later
+  pub ends : (spot_at place new).later ≤ 2 ^ 64 - 1
   pub else_same : new ≡ with_spot place (record (spot_at place old) { later = (spot_at place new).later }) old
 
 -- the place stands open under the name

@@ -77,8 +77,9 @@ impl MemStudio {
     ghost use Rattle.enc_edge.specs.Memory.{Starts, written};
 
     /// A studio over these bytes: all places are fresh, all counts are 0. Each output has room for
-    /// `room` bytes, at most 2^30, and a call moves at most `piece` bytes, at least 1. Its other
-    /// calls take no memory.
+    /// `room` bytes, at most 2^30, and a call moves at most `piece` bytes, at least 1. `failing` has
+    /// the numbers of the calls that are to fail. `OutOfMemory`: the room could not be had; the
+    /// other calls take no memory.
     pub fn new(
         alloc: Global,
         input: Vec<u8>,
