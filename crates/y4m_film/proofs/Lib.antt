@@ -3,3 +3,4 @@ pub mod Lines
 pub mod Filling
 pub mod Texts
 pub mod Frames
+pub mod Fits

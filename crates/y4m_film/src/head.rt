@@ -6,13 +6,16 @@ ghost use Rattle.enc_edge.specs.Reads.{Took, TookSome, ReadFailed};
 use crate::text::head_of_line;
 use enc_edge::{Failed, Studio, read_full};
 use spec_film::FilmHead;
+use thiserror::Error;
 
 /// Why no head was read.
-#[derive(Clone, Copy, Debug, PartialEq, Eq)]
+#[derive(Clone, Copy, Debug, PartialEq, Eq, Error)]
 pub enum HeadFault {
     /// A read failed.
+    #[error("a read failed")]
     ReadFault,
     /// The input doesn't begin with the head of a film.
+    #[error("the head of the film is malformed")]
     Form,
 }
 

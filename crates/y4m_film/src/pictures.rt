@@ -12,13 +12,16 @@ ghost use Rattle.y4m_film.specs.Sizes.{FitsHead};
 use enc_edge::{Failed, Studio, read_full};
 use picture_planes::{Picture, Plane};
 use spec_film::FilmHead;
+use thiserror::Error;
 
 /// Why no picture was read.
-#[derive(Clone, Copy, Debug, PartialEq, Eq)]
+#[derive(Clone, Copy, Debug, PartialEq, Eq, Error)]
 pub enum FrameFault {
     /// A read failed.
+    #[error("a read failed")]
     ReadFault,
     /// What comes next is no whole picture, or the film has as many pictures as a film may have.
+    #[error("a picture of the film is malformed")]
     Form,
 }
 
