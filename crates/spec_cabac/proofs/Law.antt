@@ -9,7 +9,8 @@ use Rattle.spec_cabac.specs.Decoder.{Reader, reader, refill, answered, decide, a
 use Rattle.spec_cabac.specs.Law.{RoundTrip, Gives, ReadsAll, EndsInOne, Piece, pieces_code, AllEnd, ReadsPieces}
 use Rattle.spec_cabac.proofs.Ranges.{shifts-run, range-step, end_bounded}
 use Rattle.spec_cabac.proofs.Replies.{IsIn, Replies, ReplyOf, bin_reply, high_side}
-use Rattle.spec_cabac.proofs.Digits.{length-digits, value-digits, digits-odd}
+use Rattle.spec_bits.proofs.Digits.{length-digits, value-digits}
+use Rattle.spec_cabac.proofs.Odd.{digits-odd}
 use Rattle.std.proofs.Math.Seq.{drop-append_seam}
 
 -- ---- all bins

@@ -1,4 +1,4 @@
-pub mod Digits
+pub mod Odd
 pub mod Ranges
 pub mod Replies
 pub mod Law

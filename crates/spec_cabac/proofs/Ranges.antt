@@ -1,5 +1,5 @@
 -- The range, the shifts and the number through one bin and through all.
-use Rattle.std.proofs.Common.{ℕ, zero, suc, ◌≡◌, ◌+◌, ◌-◌, ◌*◌, ◌^◌, ◌<◌, ◌≤◌, true, false, cond, nat_lt, List, [], ◌∷◌, refl, ltb, ltb-true, ltb-false, arith, le_trans, le_refl, lit<, pow-suc}
+use Rattle.std.proofs.Common.{ℕ, zero, suc, ◌≡◌, ◌+◌, ◌-◌, ◌*◌, ◌^◌, ◌<◌, ◌≤◌, true, false, cond, nat_lt, List, [], ◌∷◌, ◌++◌, refl, ltb, ltb-true, ltb-false, arith, le_trans, le_refl, lit<, pow-suc}
 use Rattle.std.specs.Bool.{beq}
 use Rattle.std.proofs.lemmas.Bool.{cond_both}
 use Rattle.enc_tables.specs.Arithmetic.{lps_range}
@@ -64,6 +64,11 @@ range-step_below (Answered Terminate true) e h l = lit< tt
 range-step_below (Answered Terminate false) e h l = range-renormalised_below 7 (kept (e.range - 2) e) (omega arith)
 
 -- ---- the shifts
+
+-- bins after bins
+pub run-append : (xs ys : List Bin) (e : Coded) → run (xs ++ ys) e ≡ run ys (run xs e)
+run-append [] ys e = refl
+run-append (b ∷ xs) ys e = run-append xs ys (step b e)
 
 pub shifts-step : (b : Bin) (e : Coded) → e.shifts ≤ (step b e).shifts
 unfolding step
