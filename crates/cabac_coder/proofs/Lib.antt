@@ -1,0 +1,3 @@
+pub mod OneByte
+pub mod Doublings
+pub mod Advance
