@@ -1,9 +1,10 @@
-ghost use Rattle.std.specs.Prelude.{◌≡◌, ℕ, ◌+◌, ◌-◌, ◌*◌, ◌/◌, ◌%◌, ◌^◌, ◌<◌, ◌≤◌, ◌↔◌, ◌⊎◌, Bool, true, false, List, length, ◌++◌, IsTrue, IsFalse, IsErr, OnOk, OnErr};
+ghost use Rattle.std.specs.Prelude.{◌≡◌, ℕ, ◌+◌, ◌-◌, ◌*◌, ◌/◌, ◌%◌, ◌^◌, ◌<◌, ◌≤◌, ◌↔◌, ◌⊎◌, Bool, true, false, List, length, drop, ◌++◌, IsTrue, IsFalse, IsErr, OnOk, OnErr};
 ghost use Rattle.enc_tables.specs.Arithmetic.{state_after};
 ghost use Rattle.spec_cabac.specs.Bins.{Bin, EndsOnce};
 ghost use Rattle.spec_cabac.specs.Bins.Bin.{Answered};
 ghost use Rattle.spec_cabac.specs.Bins.Request.{Context, Bypass, Terminate};
 ghost use Rattle.spec_cabac.specs.Code.{renormalised, step, run, flushed, arith_code, coded_start};
+ghost use Rattle.spec_cabac.specs.Law.{ReadsBack};
 ghost use Rattle.cabac_coder.specs.Whole.{moved};
 ghost use Rattle.cabac_coder.specs.State.{CoderState, coded_of, stepped, state_of, FullAt, CoderHolds};
 
@@ -59,6 +60,7 @@ impl Coder {
     }
 
     /// Codes a bin by a context, whose state then follows the bin (clause 9.3.4.2). After `Full` the context is as it was.
+    #[inline]
     pub fn bin(&mut self, ctx: &mut CtxState, bit: bool) -> Result<(), Full>
         requires live { self.old.ended ≡ false }
         requires known { ctx.old.state ≤ 63 }
@@ -74,6 +76,7 @@ impl Coder {
         Ok(())
     }
 
+    #[inline]
     fn code(&mut self, ctx: CtxState, bit: bool) -> Result<(), Full>
         requires live { self.old.ended ≡ false }
         requires known { ctx.state ≤ 63 }
@@ -92,6 +95,7 @@ impl Coder {
     }
 
     /// Codes a bin of two equal halves (clause 9.3.4.4).
+    #[inline]
     pub fn bypass(&mut self, bit: bool) -> Result<(), Full>
         requires live { self.old.ended ≡ false }
         ensures full { IsErr result ↔ FullAt self.old (step (Answered Bypass bit) (coded_of self.old)) }
@@ -108,6 +112,7 @@ impl Coder {
     }
 
     /// Codes whether the code ends here (clause 9.3.4.5).
+    #[inline]
     pub fn terminate(&mut self, bit: bool) -> Result<(), Full>
         requires live { self.old.ended ≡ false }
         ensures full { IsErr result ↔ FullAt self.old (step (Answered Terminate bit) (coded_of self.old)) }
@@ -140,6 +145,7 @@ impl Coder {
         Ok(())
     }
 
+    #[inline]
     fn advance(&mut self, add: u32, range: u32) -> Result<(), Full>
         requires within { add + range ≤ self.old.range }
         requires least { 2 ≤ range }
@@ -179,8 +185,9 @@ impl Coder {
         requires fits { self.full ≡ false }
         ensures bits { result ≡ record { text = self.start ++ flushed (coded_of self); room = self.room; made = self.made } }
 
-        // Whatever bins led here, these are the bits of their code.
+        // Whatever bins led here, these are the bits of their code, and where they end once the decoder reads them back.
         ensures code { (bins : List Bin) → run bins coded_start ≡ coded_of self → result.text ≡ self.start ++ arith_code bins }
+        ensures read_back { (bins : List Bin) → EndsOnce bins → run bins coded_start ≡ coded_of self → ReadsBack bins (drop (length self.start) result.text) }
     {
         let Coder {
             bytes,

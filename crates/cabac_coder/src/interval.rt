@@ -18,6 +18,7 @@ pub struct Interval {
 }
 
 /// How many doublings make the range at least 256.
+#[inline]
 pub fn doublings(range: u32) -> u32
     requires least { 2 ≤ range }
     requires most { range < 512 }
@@ -28,6 +29,7 @@ pub fn doublings(range: u32) -> u32
 }
 
 /// Narrows the range to the part of that size which begins at `add`, and doubles it `more` times.
+#[inline]
 pub fn narrow(bytes: &mut PendingBytes, at: Interval, add: u32, range: u32, more: u32) -> Interval
     requires within { add + range ≤ at.range }
     requires register { at.low + at.range ≤ 1024 * 2 ^ at.queued }
@@ -57,6 +59,7 @@ pub fn narrow(bytes: &mut PendingBytes, at: Interval, add: u32, range: u32, more
 }
 
 /// Doubles the number, and adds the range where the bin is 1.
+#[inline]
 pub fn halve(bytes: &mut PendingBytes, at: Interval, bit: bool) -> Interval
     requires register { at.low + at.range ≤ 1024 * 2 ^ at.queued }
     requires queued { at.queued < 8 }
@@ -81,6 +84,7 @@ pub fn halve(bytes: &mut PendingBytes, at: Interval, bit: bool) -> Interval
     )
 }
 
+#[inline]
 fn halved(at: Interval, bit: bool) -> u32
     requires low { at.low < 2 ^ 20 }
     requires range { at.range < 512 }
@@ -93,6 +97,7 @@ fn halved(at: Interval, bit: bool) -> u32
     }
 }
 
+#[inline]
 fn scaled(value: u32, by: u32) -> u32
     requires few { by ≤ 7 }
     requires small { value < 2 ^ 18 }
@@ -102,6 +107,7 @@ fn scaled(value: u32, by: u32) -> u32
 }
 
 /// Moves eight queued digits to a byte, where there are eight.
+#[inline]
 fn emit(bytes: &mut PendingBytes, at: Interval) -> Interval
     requires register { at.low + at.range ≤ 1024 * 2 ^ at.queued }
     requires few { at.queued < 16 }

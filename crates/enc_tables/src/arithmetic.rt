@@ -27,6 +27,7 @@ pub const NEXT_LPS: [u8; 64] = [
 ];
 
 /// The part of a range that the less probable value takes in a state (table 9-44).
+#[inline]
 pub fn lps_range(state: u8, range: u32) -> u32
     requires { state ≤ 63 }
     ensures value { result ≡ lps_range_of state range }
@@ -37,6 +38,7 @@ pub fn lps_range(state: u8, range: u32) -> u32
 }
 
 /// The state of a context after a bin (clause 9.3.3.2.1.1).
+#[inline]
 pub fn next_state(ctx: CtxState, bit: bool) -> CtxState
     requires { ctx.state ≤ 63 }
     ensures next { result ≡ state_after ctx bit }
@@ -55,6 +57,7 @@ pub fn next_state(ctx: CtxState, bit: bool) -> CtxState
     }
 }
 
+#[inline]
 fn state_after_mps(state: u8) -> u8
     requires { state ≤ 63 }
     ensures value { result ≡ after_mps state }
@@ -63,6 +66,7 @@ fn state_after_mps(state: u8) -> u8
     if state < 62 { state + 1 } else { state }
 }
 
+#[inline]
 fn state_after_lps(state: u8) -> u8
     requires { state ≤ 63 }
     ensures value { result ≡ after_lps state }
@@ -71,6 +75,7 @@ fn state_after_lps(state: u8) -> u8
     NEXT_LPS[state as usize]
 }
 
+#[inline]
 fn mps_after_lps(ctx: CtxState) -> bool
     ensures { result ≡ cond (ctx.state == 0) (not ctx.mps) ctx.mps }
 {

@@ -6,7 +6,7 @@ use Rattle.spec_cabac.specs.Bins.Request.{Context, Bypass, Terminate}
 use Rattle.spec_cabac.specs.Bins.Bin.{Answered}
 use Rattle.spec_cabac.specs.Code.{Coded, step, run, with_last_set, arith_code, coded_start}
 use Rattle.spec_cabac.specs.Decoder.{Reader, reader, refill, answered, decide, answer, at_end, take_bits, answers_from}
-use Rattle.spec_cabac.specs.Law.{RoundTrip, Gives, ReadsAll, EndsInOne, Piece, pieces_code, AllEnd, ReadsPieces}
+use Rattle.spec_cabac.specs.Law.{RoundTrip, ReadsBack, Gives, ReadsAll, EndsInOne, Piece, pieces_code, AllEnd, ReadsPieces}
 use Rattle.spec_cabac.proofs.Ranges.{shifts-run, range-step, end_bounded}
 use Rattle.spec_cabac.proofs.Replies.{IsIn, Replies, ReplyOf, bin_reply, high_side}
 use Rattle.spec_bits.proofs.Digits.{length-digits, value-digits}
@@ -128,6 +128,9 @@ pub round_trip : (bs : List Bin) (rest : List Bool) → EndsOnce bs → RoundTri
 round_trip bs rest k =
     let a : ReadsAll bs rest = reads_all bs rest k in
     rw a.starts (answers-Gives bs a.first a.last a.gives ∙ ap (λ n. Some (record { answers = map answer_of bs; read = n })) (a.count ∙ length-code bs))
+
+pub reads_back : (bs : List Bin) → EndsOnce bs → ReadsBack bs (arith_code bs)
+reads_back bs k = λ rest. round_trip bs rest k ∙ ap (λ n. Some (record { answers = map answer_of bs; read = n })) (sym (length-code bs))
 
 -- ---- the last bit of a code
 

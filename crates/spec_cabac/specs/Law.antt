@@ -10,6 +10,10 @@ RoundTrip bs rest =
     arith_decode (arith_code bs ++ rest) (map request_of bs)
     ≡ Some (record { answers = map answer_of bs; read = (run bs coded_start).shifts + 9 })
 
+-- bits that read back as the bins: the decoder takes exactly these bits, whatever follows
+abbrev pub ReadsBack : List Bin → List Bool → Type 0
+ReadsBack bs bits = (rest : List Bool) → arith_decode (bits ++ rest) (map request_of bs) ≡ Some (record { answers = map answer_of bs; read = length bits })
+
 -- a reader that is asked one request after another gives the bins, and is z afterwards
 abbrev pub Gives : Reader → List Bin → Reader → Type 0
 Gives r [] z = r ≡ z

@@ -1,9 +1,12 @@
-use Rattle.std.proofs.Common.{◌≡◌, ℕ, ◌+◌, ◌*◌, ◌/◌, ◌%◌, ◌^◌, ◌≤◌, ◌<◌, cond, Bool, true, false, ◌++◌, refl, sym, ap, ◌∙◌, arith}
+use Rattle.std.proofs.Common.{List, subst, drop, length, ◌≡◌, ℕ, ◌+◌, ◌*◌, ◌/◌, ◌%◌, ◌^◌, ◌≤◌, ◌<◌, cond, Bool, true, false, ◌++◌, refl, sym, ap, ◌∙◌, arith}
 use Rattle.bit_strings.specs.BitText.{BitText}
 use Rattle.spec_bits.specs.Bits.{digits}
-use Rattle.spec_cabac.specs.Code.{Coded, flushed}
+use Rattle.spec_cabac.specs.Code.{Coded, flushed, arith_code}
 use Rattle.cabac_coder.specs.Emitted.{Emitted}
 use Rattle.cabac_coder.specs.State.{CoderState, state_of, coded_of}
+use Rattle.spec_cabac.specs.Law.{ReadsBack}
+use Rattle.spec_cabac.proofs.Law.{reads_back}
+use Rattle.std.proofs.Math.Seq.{drop-append_seam}
 use Rattle.cabac_coder.proofs.Advance.{end_bound, end_fits, end_number}
 use Rattle.cabac_coder.proofs.coder.Coder.finish.Goals as goal
 
@@ -38,3 +41,10 @@ returns-clause-bits c = bits_at_end c
 
 pub returns-clause-code : goal.returns-clause-code
 returns-clause-code c = λ bins r. ap (λ (t : BitText). t.text) (bits_at_end c) ∙ ap (λ (e : Coded). c.args.self.start ++ flushed e) (sym r)
+
+pub returns-clause-read_back : goal.returns-clause-read_back
+returns-clause-read_back c = λ bins k r.
+    let t : c.finish.result.text ≡ c.args.self.start ++ arith_code bins = returns-clause-code c bins r in
+    let d : drop (length c.args.self.start) c.finish.result.text ≡ arith_code bins =
+    ap (drop (length c.args.self.start)) t ∙ drop-append_seam c.args.self.start (arith_code bins) in
+    subst (λ (x : List Bool). ReadsBack bins x) (sym d) (reads_back bins k)
