@@ -1,4 +1,4 @@
-//! The arithmetic coder of ITU-T H.264 (clause 9.3.4.2) over a bounded buffer.
+//! The arithmetic coder of ITU-T H.264 (clause 9.3.4) over a bounded buffer.
 #![tactic(auto)]
 
 mod coder;

@@ -132,6 +132,13 @@ round_trip bs rest k =
 pub reads_back : (bs : List Bin) → EndsOnce bs → ReadsBack bs (arith_code bs)
 reads_back bs k = λ rest. round_trip bs rest k ∙ ap (λ n. Some (record { answers = map answer_of bs; read = n })) (sym (length-code bs))
 
+-- a reader goes through one list of bins after another
+pub Gives-append : (xs ys : List Bin) (r z : Reader) → Gives r (xs ++ ys) z → (m : Reader) × Gives r xs m × Gives m ys z
+Gives-append [] ys r z h = (r, refl, h)
+Gives-append (x ∷ xs) ys r z h =
+    let i : (m : Reader) × Gives h.after xs m × Gives m ys z = Gives-append xs ys h.after z h.others in
+    (i.0, record { after = h.after; answers = h.answers; others = i.1 }, i.2)
+
 -- ---- the last bit of a code
 
 pub code_ends : (bs : List Bin) → EndsInOne (arith_code bs)

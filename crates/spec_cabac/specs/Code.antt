@@ -1,4 +1,4 @@
--- The arithmetic code of bins: the encoder of ITU-T H.264, clause 9.3.4.2, on one whole number, with no carry to be kept.
+-- The arithmetic code of bins: the encoder of ITU-T H.264, clause 9.3.4, on one whole number, with no carry to be kept.
 use Rattle.std.specs.Prelude.{ℕ, zero, suc, ◌+◌, ◌-◌, ◌*◌, ◌/◌, Bool, true, false, cond, nat_lt, List, [], ◌∷◌}
 use Rattle.std.specs.Bool.{beq}
 use Rattle.enc_tables.specs.Arithmetic.{lps_range}
