@@ -1,0 +1,4 @@
+pub mod OneByte
+pub mod Doublings
+pub mod Advance
+pub mod Runs

@@ -1,0 +1,5 @@
+pub mod Odd
+pub mod Ranges
+pub mod Replies
+pub mod Law
+pub mod Rows

@@ -1,0 +1,4 @@
+pub mod Bins
+pub mod Code
+pub mod Decoder
+pub mod Law
