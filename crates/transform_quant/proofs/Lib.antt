@@ -1,0 +1,5 @@
+pub mod Columns
+pub mod ForwardPasses
+pub mod HadamardPasses
+pub mod Sizes
+pub mod Two

@@ -1,0 +1,18 @@
+// Writing lines of a block as columns.
+ghost use Rattle.std.specs.Prelude.{◌≡◌, ◌≢◌, ◌<◌, ◌+◌, ◌*◌, ℕ, length};
+ghost use Rattle.spec_residual.specs.Blocks.{item};
+
+use crate::coef::Coef;
+
+// Writes a line into column i.
+#[inline(always)]
+pub fn put_column4(out: &mut [Coef; 16], i: usize, line: [Coef; 4])
+    requires { i < 4 }
+    ensures length { length out.new ≡ 16 }
+    ensures column { (b : ℕ) → b < 4 → item out.new (4 * b + i) ≡ item line b }
+    ensures others { (a b : ℕ) → a < 4 → b < 4 → a ≢ i → item out.new (4 * b + a) ≡ item out.old (4 * b + a) }
+{
+    for j in 0..4usize {
+        out[4 * j + i] = line[j];
+    }
+}
