@@ -37,3 +37,29 @@ pub fn numbers<const N: usize>(x: &[Coef; N]) -> [i32; N]
     }
     out
 }
+
+// The nearest whole numbers to half of each.
+#[inline(always)]
+pub fn halves<const N: usize>(x: &[Coef; N]) -> [i32; N]
+    requires { AllWithin N 1000000000 x.now }
+    ensures { (p : ℕ) → p < N → item result p ≡ rounded 0 (item x.now p) }
+{
+    let mut out = [0i32; N];
+    for p in 0..N {
+        out[p] = x[p].halved().get();
+    }
+    out
+}
+
+// The nearest whole numbers to a 64th of each.
+#[inline(always)]
+pub fn sixty_fourths<const N: usize>(x: &[Coef; N]) -> [i32; N]
+    requires { AllWithin N 1000000000 x.now }
+    ensures { (p : ℕ) → p < N → item result p ≡ rounded 5 (item x.now p) }
+{
+    let mut out = [0i32; N];
+    for p in 0..N {
+        out[p] = x[p].sixty_fourth().get();
+    }
+    out
+}

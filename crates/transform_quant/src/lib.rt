@@ -2,10 +2,14 @@
 #![tactic(auto)]
 
 mod coef;
+mod dc;
 mod edges;
 mod forward;
 mod hadamard;
+mod inverse;
 mod turn;
 
+pub use dc::{chroma_dc, luma_dc};
 pub use forward::forward4;
+pub use inverse::inverse4;
 pub use spec_residual::BlockKind;
