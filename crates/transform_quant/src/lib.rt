@@ -7,9 +7,12 @@ mod edges;
 mod forward;
 mod hadamard;
 mod inverse;
+mod quant;
+mod tables;
 mod turn;
 
 pub use dc::{chroma_dc, luma_dc};
 pub use forward::forward4;
 pub use inverse::inverse4;
+pub use quant::quantise;
 pub use spec_residual::BlockKind;
