@@ -11,7 +11,9 @@ use Rattle.spec_residual.specs.declared.BlockKind.{BlockKind}
 use Rattle.spec_residual.specs.declared.BlockKind.TheVariants.{Luma4, Luma8, LumaDc, Chroma4, ChromaDc}
 use Rattle.spec_residual.specs.Blocks.{Within}
 use Rattle.spec_residual.specs.Levels.{in_table, multiplier, shift, share, rounding, signed_level, level_of, greatest, IsMade}
-use Rattle.spec_residual.specs.Rescaled.{scaling}
+use Rattle.spec_residual.specs.Rescaled.{scaling, quarter_scaled}
+use Rattle.std.specs.Int.{int_shr}
+use Rattle.std.specs.Int.Signed.{shr_z}
 
 -- ---- tables
 
@@ -249,3 +251,52 @@ luma_dc_top intra qp p h = let t = top_rescaled LumaDc intra qp p h in omega ari
 
 pub chroma_dc_top : (intra : Bool) (qp p : ℕ) → qp ≤ 51 → top_scaled ChromaDc intra qp p ≤ 100000
 chroma_dc_top intra qp p h = let t = top_rescaled ChromaDc intra qp p h in omega arith
+
+-- ---- products
+
+-- s is x / (n + 1), rounded down
+record IsDivided (n : ℕ) (x s : ℤ) : Type 0 where
+  pub low : x ≤ℤ ((pos (n + 1) *ℤ s) +ℤ pos n)
+  pub high : (pos (n + 1) *ℤ s) ≤ℤ x
+
+half_bounds : (x : ℤ) → IsDivided 1 x (shr_z x 2)
+half_bounds (pos a) = record { low = omega (arith, ints); high = omega (arith, ints) }
+half_bounds (negsuc a) = record { low = omega (arith, ints); high = omega (arith, ints) }
+
+quarter_bounds : (x : ℤ) → IsDivided 3 x (shr_z x 4)
+quarter_bounds (pos a) = record { low = omega (arith, ints); high = omega (arith, ints) }
+quarter_bounds (negsuc a) = record { low = omega (arith, ints); high = omega (arith, ints) }
+
+pow_four : (k : ℕ) → 2 ^ suc (suc k) ≡ 4 * 2 ^ k
+pow_four k = let e = pow-add 2 2 k in let f : suc (suc k) ≡ 2 + k = omega arith in ap (λ (z : ℕ). 2 ^ z) f ∙ e
+
+le-refl : (n : ℕ) → n ≤ n
+le-refl n = omega arith
+
+pub times_within : (a b n : ℕ) (x : ℤ) → Within a x → n ≤ b → Within (a * b) (x *ℤ pos n)
+times_within a b n (pos m) w h =
+    let k : m ≤ a = omega (arith, ints) in
+    let l : m * n ≤ a * b = mul-le m n a b k h in
+    record { low = omega (arith, ints); high = omega (arith, ints) }
+times_within a b n (negsuc m) w h =
+    let k : suc m ≤ a = omega (arith, ints) in
+    let l : suc m * n ≤ a * b = mul-le (suc m) n a b k h in
+    record { low = omega (arith, ints); high = omega (arith, ints) }
+
+-- x·2^k / 4, rounded, where x is at most n in size
+pub quarter_within : (n k r : ℕ) (x : ℤ) → Within n x → n * 2 ^ k + 2 ≤ 4 * r → Within r (quarter_scaled k x)
+quarter_within n zero r x w h =
+    let s = quarter_bounds (x +ℤ pos 2) in
+    record { low = omega (arith, ints); high = omega (arith, ints) }
+quarter_within n (suc zero) r x w h =
+    let s = half_bounds (x +ℤ pos 1) in
+    record { low = omega (arith, ints); high = omega (arith, ints) }
+quarter_within n (suc (suc k)) r x w h =
+    let e : 2 ^ suc (suc k) ≡ 4 * 2 ^ k = pow_four k in
+    let g : n * 2 ^ suc (suc k) ≡ 4 * (n * 2 ^ k) = ap (λ (z : ℕ). n * z) e ∙ omega arith in
+    within_more (n * 2 ^ k) r _ (omega arith) (times_within n (2 ^ k) (2 ^ k) x w (le-refl (2 ^ k)))
+
+pub half_within : (n : ℕ) (x : ℤ) → Within n x → Within n (int_shr x 1)
+half_within n x w =
+    let s = half_bounds x in
+    record { low = omega (arith, ints); high = omega (arith, ints) }

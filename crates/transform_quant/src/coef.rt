@@ -1,5 +1,5 @@
 // Numbers of 32 bits that contracts see as integers.
-ghost use Rattle.std.specs.Prelude.{◌≡◌, ℤ, pos, ◌+ℤ◌, ◌-ℤ◌, ◌*ℤ◌, ◌≤ℤ◌};
+ghost use Rattle.std.specs.Prelude.{◌≡◌, ◌≤◌, ℤ, pos, ◌+ℤ◌, ◌-ℤ◌, ◌*ℤ◌, ◌≤ℤ◌};
 ghost use Rattle.spec_residual.specs.Blocks.{Within, rounded};
 ghost use Rattle.spec_residual.specs.Inverse.{half, quarter};
 
@@ -110,6 +110,30 @@ impl Coef {
     {
         Coef {
             value: (self.value + 32) >> 6,
+        }
+    }
+
+    /// The nearest whole number to a quarter of it.
+    #[inline(always)]
+    pub fn quartered(self) -> Coef
+        requires { Within 2147483615 self }
+        ensures value { result ≡ rounded 1 self }
+        ensures low { self ≤ℤ ((pos 4 *ℤ result) +ℤ pos 1) }
+        ensures high { (pos 4 *ℤ result) ≤ℤ (self +ℤ pos 2) }
+    {
+        Coef {
+            value: (self.value + 2) >> 2,
+        }
+    }
+
+    #[inline(always)]
+    pub fn scaled(self, factor: u32) -> Coef
+        requires factor { factor ≤ 2147483647 }
+        requires fits { Within 2147483647 (self *ℤ pos factor) }
+        ensures { result ≡ self *ℤ pos factor }
+    {
+        Coef {
+            value: self.value * factor as i32,
         }
     }
 }

@@ -8,6 +8,7 @@ mod forward;
 mod hadamard;
 mod inverse;
 mod quant;
+mod rescale;
 mod tables;
 mod turn;
 

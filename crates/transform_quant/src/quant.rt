@@ -46,7 +46,7 @@ fn share(intra: bool, step: u32) -> u32
 }
 
 #[inline(always)]
-fn power_of_two(n: u32) -> u32
+pub fn power_of_two(n: u32) -> u32
     requires { n ≤ 24 }
     ensures value { result ≡ 2 ^ n }
     ensures small { result ≤ 16777216 }
