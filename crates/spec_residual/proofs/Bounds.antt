@@ -11,7 +11,7 @@ use Rattle.spec_residual.specs.declared.BlockKind.{BlockKind}
 use Rattle.spec_residual.specs.declared.BlockKind.TheVariants.{Luma4, Luma8, LumaDc, Chroma4, ChromaDc}
 use Rattle.spec_residual.specs.Blocks.{Within}
 use Rattle.spec_residual.specs.Levels.{in_table, multiplier, shift, share, rounding, signed_level, level_of, greatest, IsMade}
-use Rattle.spec_residual.specs.Rescaled.{scaling, quarter_scaled}
+use Rattle.spec_residual.specs.Rescaled.{scaling, quarter_scaled, rescaled}
 use Rattle.std.specs.Int.{int_shr}
 use Rattle.std.specs.Int.Signed.{shr_z}
 
@@ -300,3 +300,60 @@ pub half_within : (n : ℕ) (x : ℤ) → Within n x → Within n (int_shr x 1)
 half_within n x w =
     let s = half_bounds x in
     record { low = omega (arith, ints); high = omega (arith, ints) }
+
+-- ---- rescaled levels of the quantiser
+
+pub made_within : (kind : BlockKind) (intra : Bool) (qp p : ℕ) (level : ℤ) → IsMade kind intra qp p level → Within (top_level kind intra qp p) level
+made_within kind intra qp p level m =
+    subst (λ (z : ℤ). Within (top_level kind intra qp p) z) (sym m.made) (level_within_top kind intra qp p m.coefficient m.small)
+
+scaled_within : (l v k n : ℕ) (x : ℤ) → Within l x → l * (v * k) ≤ n → Within n (x *ℤ pos (v * k))
+scaled_within l v k n x w h = within_more (l * (v * k)) n _ h (times_within l (v * k) (v * k) x w (le-refl (v * k)))
+
+quarter_scaled_within : (l v k n : ℕ) (x : ℤ) → Within l x → l * (v * 2 ^ k) + 2 ≤ 4 * n → Within n (quarter_scaled k (x *ℤ pos v))
+quarter_scaled_within l v k n x w h =
+    let e : l * v * 2 ^ k ≡ l * (v * 2 ^ k) = omega arith in
+    quarter_within (l * v) k n (x *ℤ pos v) (times_within l v v x w (le-refl v)) (omega arith)
+
+rescaled_within : (kind : BlockKind) (intra : Bool) (qp p : ℕ) (x : ℤ) → qp ≤ 51 → Within (top_level kind intra qp p) x → Within 1048576 (rescaled kind qp p x)
+unfolding rescaled
+rescaled_within Luma4 intra qp p x h w = scaled_within (top_level Luma4 intra qp p) (scaling Luma4 qp p) (2 ^ (qp / 6)) 1048576 x w (luma4_top intra qp p h)
+rescaled_within Luma8 intra qp p x h w =
+    let t = luma8_top intra qp p h in
+    quarter_scaled_within (top_level Luma8 intra qp p) (scaling Luma8 qp p) (qp / 6) 1048576 x w (omega arith)
+rescaled_within LumaDc intra qp p x h w =
+    let t = luma_dc_top intra qp p h in
+    quarter_scaled_within (top_level LumaDc intra qp p) (scaling LumaDc qp p) (qp / 6) 1048576 x w (omega arith)
+rescaled_within Chroma4 intra qp p x h w = scaled_within (top_level Chroma4 intra qp p) (scaling Chroma4 qp p) (2 ^ (qp / 6)) 1048576 x w (chroma4_top intra qp p h)
+rescaled_within ChromaDc intra qp p x h w =
+    let t = chroma_dc_top intra qp p h in
+    half_within 1048576 _ (scaled_within (top_level ChromaDc intra qp p) (scaling ChromaDc qp p) (2 ^ (qp / 6)) 1048576 x w (omega arith))
+
+-- a level that the quantiser made
+pub rescaled_small : (kind : BlockKind) (intra : Bool) (qp p : ℕ) (level : ℤ) → qp ≤ 51 → IsMade kind intra qp p level → Within 1048576 (rescaled kind qp p level)
+rescaled_small kind intra qp p level h m = rescaled_within kind intra qp p level h (made_within kind intra qp p level m)
+
+-- a sum of sixteen DC levels that the quantiser made
+pub luma_dc_sum_small : (intra : Bool) (qp p : ℕ) (x : ℤ) → qp ≤ 51 → Within (16 * top_level LumaDc intra qp p) x → Within 1048576 (rescaled LumaDc qp p x)
+unfolding rescaled
+luma_dc_sum_small intra qp p x h w =
+    let t = luma_dc_top intra qp p h in
+    let e : 16 * top_level LumaDc intra qp p * (scaling LumaDc qp p * 2 ^ (qp / 6)) ≡ 16 * top_scaled LumaDc intra qp p = omega arith in
+    quarter_scaled_within (16 * top_level LumaDc intra qp p) (scaling LumaDc qp p) (qp / 6) 1048576 x w (omega arith)
+
+-- a sum of four DC levels that the quantiser made
+pub chroma_dc_sum_small : (intra : Bool) (qp p : ℕ) (x : ℤ) → qp ≤ 51 → Within (4 * top_level ChromaDc intra qp p) x → Within 1048576 (rescaled ChromaDc qp p x)
+unfolding rescaled
+chroma_dc_sum_small intra qp p x h w =
+    let t = chroma_dc_top intra qp p h in
+    let e : 4 * top_level ChromaDc intra qp p * (scaling ChromaDc qp p * 2 ^ (qp / 6)) ≡ 4 * top_scaled ChromaDc intra qp p = omega arith in
+    half_within 1048576 _ (scaled_within (4 * top_level ChromaDc intra qp p) (scaling ChromaDc qp p) (2 ^ (qp / 6)) 1048576 x w (omega arith))
+
+-- the bound doesn't depend on the place of a DC level
+pub luma_dc_top_level : (intra : Bool) (qp p : ℕ) → top_level LumaDc intra qp p ≡ top_level LumaDc intra qp 0
+unfolding multiplier
+luma_dc_top_level intra qp p = refl
+
+pub chroma_dc_top_level : (intra : Bool) (qp p : ℕ) → top_level ChromaDc intra qp p ≡ top_level ChromaDc intra qp 0
+unfolding multiplier
+chroma_dc_top_level intra qp p = refl

@@ -8,7 +8,7 @@ mod forward;
 mod hadamard;
 mod inverse;
 mod quant;
-mod rescale;
+mod scale;
 mod tables;
 mod turn;
 
@@ -16,4 +16,5 @@ pub use dc::{chroma_dc, luma_dc};
 pub use forward::forward4;
 pub use inverse::inverse4;
 pub use quant::quantise;
+pub use scale::{rescale, rescale_chroma_dc, rescale_luma_dc};
 pub use spec_residual::BlockKind;

@@ -3,7 +3,7 @@ use Rattle.std.proofs.Math.Nat.{pow-le-pow_right}
 use Rattle.std.proofs.lemmas.Nat.{mul-le}
 use Rattle.spec_residual.specs.Blocks.{Within}
 use Rattle.spec_residual.proofs.Bounds.{within_more, times_within}
-use Rattle.transform_quant.proofs.rescale.quarter_times.Goals as goal
+use Rattle.transform_quant.proofs.scale.quarter_times.Goals as goal
 
 product : (x y : ℤ) (f s k : ℕ) → Within 131056 x → f ≤ 58 → k ≤ 8 → y ≡ x *ℤ pos f → s ≡ 2 ^ (k - 2) → Within 1945919488 (y *ℤ pos s)
 product x y f s k small few short is power =

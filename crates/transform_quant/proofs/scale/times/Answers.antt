@@ -3,7 +3,7 @@ use Rattle.std.proofs.Math.Nat.{pow-le-pow_right}
 use Rattle.std.proofs.lemmas.Nat.{mul-le}
 use Rattle.spec_residual.specs.Blocks.{Within}
 use Rattle.spec_residual.proofs.Bounds.{within_more, times_within}
-use Rattle.transform_quant.proofs.rescale.times.Goals as goal
+use Rattle.transform_quant.proofs.scale.times.Goals as goal
 
 product : (x : ℤ) (f s k : ℕ) → Within 131056 x → f ≤ 58 → k ≤ 8 → s ≡ 2 ^ k → Within 1945919488 (x *ℤ pos (f * s))
 product x f s k small few short is =
