@@ -1,4 +1,5 @@
 pub mod Columns
+pub mod Counted
 pub mod Eight
 pub mod ForwardPasses
 pub mod HadamardPasses

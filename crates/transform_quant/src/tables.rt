@@ -1,9 +1,9 @@
 // Reading the tables.
 ghost use Rattle.std.specs.Prelude.{◌≡◌, ◌≤◌, ◌<◌, ◌+◌, ◌*◌, ◌/◌, ◌%◌, slice_index};
-ghost use Rattle.enc_tables.specs.declared.transform.TheConstants.{CLASS4, CLASS8, MULTIPLIER4, MULTIPLIER8, SCALING4, SCALING8};
+ghost use Rattle.enc_tables.specs.declared.transform.TheConstants.{CLASS4, CLASS8, MULTIPLIER4, MULTIPLIER8, SCALING4, SCALING8, ZIGZAG4, ZIGZAG8};
 ghost use Rattle.spec_residual.specs.Levels.{in_table};
 
-use enc_tables::{CLASS4, CLASS8, MULTIPLIER4, MULTIPLIER8, SCALING4, SCALING8};
+use enc_tables::{CLASS4, CLASS8, MULTIPLIER4, MULTIPLIER8, SCALING4, SCALING8, ZIGZAG4, ZIGZAG8};
 
 #[inline(always)]
 pub fn class4(place: u8) -> usize
@@ -53,4 +53,22 @@ pub fn scaling8(qp: u8, class: usize) -> u32
     ensures { result ≡ in_table SCALING8 (qp % 6) class }
 {
     SCALING8[(qp % 6) as usize][class] as u32
+}
+
+#[inline(always)]
+pub fn zigzag4(scan: usize) -> u8
+    requires { scan < 16 }
+    ensures value { result ≡ slice_index ZIGZAG4 scan }
+    ensures inside { result < 16 }
+{
+    ZIGZAG4[scan]
+}
+
+#[inline(always)]
+pub fn zigzag8(scan: usize) -> u8
+    requires { scan < 64 }
+    ensures value { result ≡ slice_index ZIGZAG8 scan }
+    ensures inside { result < 64 }
+{
+    ZIGZAG8[scan]
 }
