@@ -3,6 +3,11 @@
 
 mod arithmetic;
 mod records;
+mod transform;
 
 pub use arithmetic::{NEXT_LPS, RANGE_LPS, lps_range, next_state};
 pub use records::{CtxState, MbKind, MbRecord, Motion, PlanStep, SliceKind, Vector};
+pub use transform::{
+    CHROMA_QP, CLASS4, CLASS8, FORWARD4, FORWARD8, HADAMARD2, HADAMARD4, MULTIPLIER4, MULTIPLIER8,
+    SCALING4, SCALING8, ZIGZAG4, ZIGZAG8,
+};

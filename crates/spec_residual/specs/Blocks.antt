@@ -1,0 +1,58 @@
+-- Blocks of signed numbers, written row by row, and matrices.
+use Rattle.std.specs.Prelude.{ℕ, zero, suc, ℤ, pos, negsuc, ◌≤ℤ◌, ◌-ℤ◌, ◌+ℤ◌, ◌*ℤ◌, Bool, true, false, List, [], map, slice_index_or, ◌<◌, ◌+◌, ◌*◌, ◌^◌}
+use Rattle.std.specs.Int.{int_shr}
+use Rattle.std.specs.List.{range_with_len, count_by}
+
+-- at most b in size
+pub record Within (b : ℕ) (x : ℤ) : Type 0 where
+  pub low : (pos 0 -ℤ pos b) ≤ℤ x
+  pub high : x ≤ℤ pos b
+
+-- the value at place p
+abbrev pub item : List ℤ → ℕ → ℤ
+item xs p = slice_index_or xs p (pos 0)
+
+-- the first n items are at most b in size
+abbrev pub AllWithin : ℕ → ℕ → List ℤ → Type 0
+AllWithin n b xs = (p : ℕ) → p < n → Within b (item xs p)
+
+-- the values of f at the places below n
+unfoldable pub listed : ℕ → (ℕ → ℤ) → List ℤ
+listed n f = map f (range_with_len 0 n)
+
+-- the sum of f over the numbers below n
+abbrev pub sum_below : ℕ → (ℕ → ℤ) → ℤ
+sum_below zero f = pos 0
+sum_below (suc n) f = sum_below n f +ℤ f n
+
+-- the block of n columns that is written row by row, as a matrix
+abbrev pub block : ℕ → List ℤ → ℕ → ℕ → ℤ
+block n xs i j = item xs (n * i + j)
+
+-- the matrix with these rows
+abbrev pub rows_of : List (List ℤ) → ℕ → ℕ → ℤ
+rows_of rows i j = item (slice_index_or rows i []) j
+
+abbrev pub transposed : (ℕ → ℕ → ℤ) → ℕ → ℕ → ℤ
+transposed a i j = a j i
+
+-- the product of two matrices, where a has n columns and b has n rows
+abbrev pub product : ℕ → (ℕ → ℕ → ℤ) → (ℕ → ℕ → ℤ) → ℕ → ℕ → ℤ
+product n a b i j = sum_below n (λ k. a i k *ℤ b k j)
+
+-- C·(X·Cᵀ)
+abbrev pub transformed : ℕ → (ℕ → ℕ → ℤ) → (ℕ → ℕ → ℤ) → ℕ → ℕ → ℤ
+transformed n c x = product n c (product n x (transposed c))
+
+-- (x + 2^s) >> (s + 1): x / 2^(s + 1), rounded to the nearest whole number
+abbrev pub rounded : ℕ → ℤ → ℤ
+rounded s x = int_shr (x +ℤ pos (2 ^ s)) (s + 1)
+
+abbrev pub is_nonzero : ℤ → Bool
+is_nonzero (pos zero) = false
+is_nonzero (pos (suc n)) = true
+is_nonzero (negsuc n) = true
+
+-- how many of these levels aren't zero
+unfoldable pub nonzero_levels : List ℤ → ℕ
+nonzero_levels levels = count_by is_nonzero levels

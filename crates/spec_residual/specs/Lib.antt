@@ -1,0 +1,5 @@
+pub mod Blocks
+pub mod Forward
+pub mod Inverse
+pub mod Levels
+pub mod Rescaled

@@ -1,0 +1,12 @@
+pub mod Columns
+pub mod Counted
+pub mod Eight
+pub mod ForwardPasses
+pub mod HadamardPasses
+pub mod InverseEight
+pub mod InversePasses
+pub mod Shifts
+pub mod Sizes
+pub mod SizesEight
+pub mod Two
+pub mod TwoEight

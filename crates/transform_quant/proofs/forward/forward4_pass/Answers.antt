@@ -1,0 +1,12 @@
+use Rattle.std.proofs.Common.{◌≡◌, ◌<◌, ◌+◌, ◌*◌, ℕ, arith, length}
+use Rattle.transform_quant.specs.Lines.{forward4_line, row4_by}
+use Rattle.transform_quant.proofs.Columns.{columns4_next, line4_read}
+use Rattle.transform_quant.proofs.forward.forward4_pass.Goals as goal
+
+pub loop-i-preserved : goal.loop-i-preserved
+loop-i-preserved c =
+    let line = line4_read forward4_line c.args.x.now c.forward4_line-line.result c.loop-i.i _ _ _ _ (omega arith) (omega arith) c.forward4_line-line.ensures in
+    record {
+      long = c.put_column4.ensures.length;
+      columns = columns4_next (row4_by forward4_line c.args.x.now) c.loop-i.out c.put_column4.new.out c.forward4_line-line.result c.loop-i.i (omega arith) c.put_column4.ensures.column c.put_column4.ensures.others line c.loop-i.invariant.columns;
+    }

@@ -1,0 +1,12 @@
+use Rattle.std.proofs.Common.{◌≡◌, ◌<◌, ◌+◌, ◌*◌, ℕ, arith, length}
+use Rattle.transform_quant.specs.Lines.{forward8_line, row8_by}
+use Rattle.transform_quant.proofs.Eight.{columns8_next, line8_read}
+use Rattle.transform_quant.proofs.forward8x8.forward8_pass.Goals as goal
+
+pub loop-i-preserved : goal.loop-i-preserved
+loop-i-preserved c =
+    let line = line8_read forward8_line c.args.x.now c.forward8_line-line.result c.loop-i.i _ _ _ _ _ _ _ _ (omega arith) (omega arith) c.forward8_line-line.ensures in
+    record {
+      long = c.put_column8.ensures.length;
+      columns = columns8_next (row8_by forward8_line c.args.x.now) c.loop-i.out c.put_column8.new.out c.forward8_line-line.result c.loop-i.i (omega arith) c.put_column8.ensures.column c.put_column8.ensures.others line c.loop-i.invariant.columns;
+    }

@@ -1,0 +1,16 @@
+use Rattle.std.proofs.Common.{◌≡◌, ℕ, ℤ, pos, ◌+ℤ◌, ◌-ℤ◌, ◌≤ℤ◌, arith}
+use Rattle.std.proofs.lemmas.Int.{ints}
+use Rattle.spec_residual.specs.Blocks.{Within}
+use Rattle.transform_quant.proofs.hadamard.hadamard2_sums.Goals as goal
+
+pub plus-requires : goal.plus-requires
+plus-requires c = record { low = omega (arith, ints); high = omega (arith, ints) }
+
+pub plus-requires-2 : goal.plus-requires-2
+plus-requires-2 c = record { low = omega (arith, ints); high = omega (arith, ints) }
+
+pub minus-requires : goal.minus-requires
+minus-requires c = record { low = omega (arith, ints); high = omega (arith, ints) }
+
+pub minus-requires-2 : goal.minus-requires-2
+minus-requires-2 c = record { low = omega (arith, ints); high = omega (arith, ints) }

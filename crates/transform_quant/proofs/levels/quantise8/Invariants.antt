@@ -1,0 +1,15 @@
+use Rattle.std.proofs.Common.{◌≡◌, ◌≤◌, ◌<◌, ℕ, length, take, get_or}
+use Rattle.std.specs.List.{count_by}
+use Rattle.enc_tables.specs.declared.transform.TheConstants.{ZIGZAG8}
+use Rattle.spec_residual.specs.declared.BlockKind.TheVariants.{Luma8}
+use Rattle.spec_residual.specs.Blocks.{is_nonzero, item}
+use Rattle.spec_residual.specs.Levels.{level_of}
+use Rattle.transform_quant.proofs.levels.quantise8.Given as goal
+
+abbrev pub invariant-loop-scan : goal.invariant-loop-scan
+invariant-loop-scan l = record {
+  long : length l.levels ≡ 64;
+  done : (k : ℕ) → k < l.scan → item l.levels k ≡ level_of Luma8 l.intra l.qp (get_or ZIGZAG8 k 0) (item l.c (get_or ZIGZAG8 k 0));
+  few : l.nonzero ≤ l.scan;
+  counted : l.nonzero ≡ count_by is_nonzero (take l.scan l.levels);
+}
