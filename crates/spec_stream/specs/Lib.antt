@@ -1,2 +1,4 @@
+pub mod Decode
+pub mod Pcm
 pub mod Samples
 pub mod Stored
