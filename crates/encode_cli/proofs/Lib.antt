@@ -1,0 +1,3 @@
+pub mod Deciding
+pub mod Running
+pub mod Storing

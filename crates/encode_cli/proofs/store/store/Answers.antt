@@ -1,0 +1,76 @@
+use Rattle.std.proofs.Common.{ℕ, ◌≡◌, refl, subst, ap, Result, Ok, Err}
+use Rattle.spec_film.specs.Films.{Ended, Faulty}
+use Rattle.spec_film.specs.declared.InputFault.TheVariants.{Form}
+use Rattle.encode_cli.specs.Pictures.{PicturesLeft}
+use Rattle.encode_cli.proofs.Running.{head_begun, stored, cut, unread, unwritten, unclosed, head_unread, no_head_there}
+use Rattle.encode_cli.proofs.store.store.Goals as goal
+
+pub returns-in-Err-ReadFault : goal.returns-in-Err-ReadFault
+returns-in-Err-ReadFault g c =
+    let seen = g.S.Studio.seen in
+    head_unread c.args.input.now c.args.output.now (seen c.args.studio.now) (seen c.open_in.new.self) (seen c.read_head.new.studio) c.in-Ok.ensures
+      (c.in-Err-ReadFault.ensures.read (ap (λ e. Err e) c.in-Err-ReadFault.field-0-is))
+
+pub returns-in-Err-Form : goal.returns-in-Err-Form
+returns-in-Err-Form g c =
+    let seen = g.S.Studio.seen in
+    no_head_there c.args.input.now c.args.output.now (seen c.args.studio.now) (seen c.open_in.new.self) (seen c.read_head.new.studio) c.in-Ok.ensures
+      (c.in-Err-Form.ensures.form (ap (λ e. Err e) c.in-Err-Form.field-0-is))
+
+pub returns-in-Err-Read : goal.returns-in-Err-Read
+returns-in-Err-Read g c =
+    let seen = g.S.Studio.seen in
+    let input = c.args.input.now in
+    let output = c.args.output.now in
+    let old = seen c.args.studio.now in
+    let head = c.in-Ok-read_head.head in
+    let t = c.in-Ok-read_head.ensures.ok in
+    let b = head_begun input output head t.0 old (seen c.open_in.new.self) (seen c.read_head.new.studio) (seen c.open_out.new.self) c.in-Ok.ensures t.1 c.in-Ok-open_out.ensures in
+    let left = subst (λ e. PicturesLeft head (seen c.open_out.new.self) (seen c.store_pictures.new.studio) (Err e)) c.in-Err-Read.field-0-is c.in-Err-Read.ensures in
+    unread input output head t.0 old (seen c.open_out.new.self) (seen c.store_pictures.new.studio) b left
+
+pub returns-in-Err-Write : goal.returns-in-Err-Write
+returns-in-Err-Write g c =
+    let seen = g.S.Studio.seen in
+    let input = c.args.input.now in
+    let output = c.args.output.now in
+    let old = seen c.args.studio.now in
+    let head = c.in-Ok-read_head.head in
+    let t = c.in-Ok-read_head.ensures.ok in
+    let b = head_begun input output head t.0 old (seen c.open_in.new.self) (seen c.read_head.new.studio) (seen c.open_out.new.self) c.in-Ok.ensures t.1 c.in-Ok-open_out.ensures in
+    let left = subst (λ e. PicturesLeft head (seen c.open_out.new.self) (seen c.store_pictures.new.studio) (Err e)) c.in-Err-Write.field-0-is c.in-Err-Write.ensures in
+    (refl, unwritten input output head t.0 old (seen c.open_out.new.self) (seen c.store_pictures.new.studio) b left)
+
+pub returns-in-Err-NoPicture : goal.returns-in-Err-NoPicture
+returns-in-Err-NoPicture g c =
+    let seen = g.S.Studio.seen in
+    let input = c.args.input.now in
+    let output = c.args.output.now in
+    let old = seen c.args.studio.now in
+    let head = c.in-Ok-read_head.head in
+    let t = c.in-Ok-read_head.ensures.ok in
+    let b = head_begun input output head t.0 old (seen c.open_in.new.self) (seen c.read_head.new.studio) (seen c.open_out.new.self) c.in-Ok.ensures t.1 c.in-Ok-open_out.ensures in
+    let left = subst (λ e. PicturesLeft head (seen c.open_out.new.self) (seen c.store_pictures.new.studio) (Err e)) c.in-Err-NoPicture.field-0-is c.in-Err-NoPicture.ensures in
+    cut input output head t.0 Form old (seen c.open_out.new.self) (seen c.store_pictures.new.studio) b left
+
+pub returns-in-Ok-close_out : goal.returns-in-Ok-close_out
+returns-in-Ok-close_out g c =
+    let seen = g.S.Studio.seen in
+    let input = c.args.input.now in
+    let output = c.args.output.now in
+    let old = seen c.args.studio.now in
+    let head = c.in-Ok-read_head.head in
+    let t = c.in-Ok-read_head.ensures.ok in
+    let b = head_begun input output head t.0 old (seen c.open_in.new.self) (seen c.read_head.new.studio) (seen c.open_out.new.self) c.in-Ok.ensures t.1 c.in-Ok-open_out.ensures in
+    stored input output head t.0 old (seen c.open_out.new.self) (seen c.store_pictures.new.studio) (seen c.close_out.new.self) b c.in-Ok-store_pictures.ensures c.in-Ok-close_out.ensures
+
+pub returns : goal.returns
+returns g c =
+    let seen = g.S.Studio.seen in
+    let input = c.args.input.now in
+    let output = c.args.output.now in
+    let old = seen c.args.studio.now in
+    let head = c.in-Ok-read_head.head in
+    let t = c.in-Ok-read_head.ensures.ok in
+    let b = head_begun input output head t.0 old (seen c.open_in.new.self) (seen c.read_head.new.studio) (seen c.open_out.new.self) c.in-Ok.ensures t.1 c.in-Ok-open_out.ensures in
+    (refl, unclosed input output head t.0 old (seen c.open_out.new.self) (seen c.store_pictures.new.studio) (seen c.close_out.new.self) b c.in-Ok-store_pictures.ensures c.in-Err-close_out.ensures)

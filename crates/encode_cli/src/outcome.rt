@@ -1,0 +1,71 @@
+// How a run ends, and what the program tells of it.
+ghost use Rattle.std.specs.Prelude.{◌≡◌, ◌≤◌, length};
+ghost use Rattle.encode_cli.specs.Told.{line_of, status_of};
+
+use crate::words::WordFault;
+use arrayvec::ArrayString;
+use enc_edge::{Out, Place};
+use spec_film::InputFault;
+
+/// How a run ends.
+#[derive(Clone, Copy, Debug, PartialEq, Eq)]
+pub enum Outcome {
+    /// The film was read to its end, and all was written and closed.
+    Done,
+    /// The words are no command.
+    Words(WordFault),
+    /// A file couldn't be opened. Nothing was written then, and where it is the input, nothing was read.
+    Open(Place),
+    /// Reading the input failed.
+    Read,
+    /// Writing or closing an output failed.
+    Write(Out),
+    /// The input isn't a film.
+    Input(InputFault),
+    /// Memory was wanting. Nothing was written then.
+    OutOfMemory,
+}
+
+/// The exit status.
+pub fn status(outcome: &Outcome) -> u8
+    ensures { result ≡ status_of outcome.now }
+{
+    match outcome {
+        Outcome::Done => 0,
+        Outcome::Words(_) => 2,
+        Outcome::Input(_) => 3,
+        Outcome::Read => 6,
+        Outcome::Write(_) => 7,
+        Outcome::Open(_) => 8,
+        Outcome::OutOfMemory => 9,
+    }
+}
+
+fn line_text(outcome: &Outcome) -> &'static str
+    ensures text { result.now ≡ line_of outcome.now }
+    ensures short { length result.now ≤ 96 }
+{
+    match outcome {
+        Outcome::Done => "",
+        Outcome::Words(_) => "words refused",
+        Outcome::Input(_) => "input refused",
+        Outcome::Read => "read failed",
+        Outcome::Write(Out::Stream) => "write failed: stream",
+        Outcome::Write(Out::Recon) => "write failed: recon",
+        Outcome::Write(Out::Report) => "write failed: report",
+        Outcome::Open(Place::Input) => "open failed: input",
+        Outcome::Open(Place::Output(Out::Stream)) => "open failed: stream",
+        Outcome::Open(Place::Output(Out::Recon)) => "open failed: recon",
+        Outcome::Open(Place::Output(Out::Report)) => "open failed: report",
+        Outcome::OutOfMemory => "out of memory",
+    }
+}
+
+/// The line for standard error, without its line feed; empty where nothing is to be printed.
+pub fn fault_line(outcome: &Outcome) -> ArrayString<96>
+    ensures { result.bytes ≡ line_of outcome.now }
+{
+    let mut line = ArrayString::new();
+    line.push_str(line_text(outcome));
+    line
+}
