@@ -1,5 +1,5 @@
 -- Bounds on levels, and on what rescaling makes of them: facts of the tables, computed once, and what follows for each kind of block.
-use Rattle.std.proofs.Common.{◌≡◌, ℕ, zero, suc, ℤ, pos, negsuc, ◌+◌, ◌-◌, ◌*◌, ◌/◌, ◌%◌, ◌^◌, ◌<◌, ◌≤◌, ◌+ℤ◌, ◌-ℤ◌, ◌*ℤ◌, ◌≤ℤ◌, Bool, true, false, ◌&&◌, leb, T, List, [], ◌∷◌, length, get_or, refl, sym, ap, ◌∙◌, arith, subst, lit<, lit≤}
+use Rattle.std.proofs.Common.{◌≡◌, ℕ, zero, suc, ℤ, pos, negsuc, ◌+◌, ◌*◌, ◌/◌, ◌%◌, ◌^◌, ◌<◌, ◌≤◌, ◌+ℤ◌, ◌*ℤ◌, ◌≤ℤ◌, Bool, true, false, ◌&&◌, leb, T, List, [], ◌∷◌, get_or, refl, sym, ap, ◌∙◌, arith, subst, lit<, lit≤}
 use Rattle.std.proofs.Math.Nat.{div-le_of_le-mul, div-mul-le_self, pow-le-pow_right, mul-le-mul_left, mul-le-mul_right, le-mul_of_pos_right}
 use Rattle.std.proofs.Math.Pow.{shr_mono}
 use Rattle.std.proofs.Math.Dec.{leb→le}

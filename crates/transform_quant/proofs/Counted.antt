@@ -1,5 +1,5 @@
 -- One level more of a block, and of the count of those that aren't zero.
-use Rattle.std.proofs.Common.{◌≡◌, ℕ, ℤ, pos, negsuc, ◌≤ℤ◌, ◌-ℤ◌, w32, ◌+◌, ◌<◌, ◌≤◌, Bool, true, false, cond, List, length, get_or, set, take, refl, sym, ap, ◌∙◌, arith, inl, inr, subst}
+use Rattle.std.proofs.Common.{◌≡◌, ℕ, ℤ, pos, negsuc, w32, ◌+◌, ◌<◌, ◌≤◌, Bool, true, false, cond, List, length, set, take, ap, ◌∙◌, arith, inl, inr}
 use Rattle.std.proofs.lemmas.Bool.{cases_lt}
 use Rattle.std.proofs.lemmas.Grind.{common_steps, get_or-set_at}
 use Rattle.std.proofs.lemmas.List.{get_or-set_other}
@@ -11,11 +11,11 @@ use mir.Val.{SFits}
 pub levels_next : (f : ℕ → ℤ) (xs : List ℤ) (i : ℕ) (v : ℤ) → i < length xs → v ≡ f i → ((k : ℕ) → k < i → item xs k ≡ f k) → (k : ℕ) → k < i + 1 → item (set xs i v) k ≡ f k
 levels_next f xs i v inside is done k h =
     elim (cases_lt k i) [
-      inl l ↦ get_or-set_other xs i k v (pos 0) (λ z. absurd (omega arith)) ∙ done k l
-    | inr g ↦
-        (let e : i ≡ k = omega arith in
-        let e' : k ≡ i = omega arith in
-        get_or-set_at xs i k v (pos 0) e' inside ∙ is ∙ ap f e)
+      | inl l ↦ get_or-set_other xs i k v (pos 0) (λ z. absurd (omega arith)) ∙ done k l
+      | inr g ↦
+          (let e : i ≡ k = omega arith in
+          let e' : k ≡ i = omega arith in
+          get_or-set_at xs i k v (pos 0) e' inside ∙ is ∙ ap f e)
     ]
 
 pub count_next : (xs : List ℤ) (i : ℕ) (v : ℤ) (c o : ℕ) → i < length xs → c ≡ count_by is_nonzero (take i xs) → o ≡ cond (is_nonzero v) 1 0 → c + o ≡ count_by is_nonzero (take (i + 1) (set xs i v))

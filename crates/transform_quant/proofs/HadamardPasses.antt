@@ -1,10 +1,10 @@
 -- Two passes of the Hadamard transforms.
-use Rattle.std.proofs.Common.{◌≡◌, ℕ, zero, suc, ℤ, pos, ◌+◌, ◌*◌, ◌/◌, ◌%◌, ◌<◌, ◌≤◌, ◌+ℤ◌, ◌-ℤ◌, ◌*ℤ◌, ◌≤ℤ◌, List, [], ◌∷◌, length, refl, sym, ap, ◌∙◌, arith, subst, lit<, lit≤}
+use Rattle.std.proofs.Common.{◌≡◌, ℕ, zero, suc, ℤ, ◌*◌, ◌/◌, ◌%◌, ◌<◌, List, arith, subst, lit<}
 use Rattle.std.proofs.lemmas.Int.{ints}
 use Rattle.enc_tables.specs.declared.transform.TheConstants.{HADAMARD4, HADAMARD2}
 use Rattle.spec_residual.specs.Blocks.{Within, AllWithin, item, block, transformed, rows_of}
 use Rattle.transform_quant.specs.Lines.{row4_by, Turned4, hadamard4_line, hadamard2_sums}
-use Rattle.transform_quant.proofs.Sizes.{pass4_within, hadamard4_grows, all_within_same}
+use Rattle.transform_quant.proofs.Sizes.{pass4_within, hadamard4_grows}
 use Rattle.transform_quant.proofs.Two.{two_passes4, hadamard4_left, hadamard4_right}
 
 pub hadamard4_is : (x t out : List ℤ) → Turned4 (row4_by hadamard4_line x) t → Turned4 (row4_by hadamard4_line t) out → (p : ℕ) → p < 16 → item out p ≡ transformed 4 (rows_of HADAMARD4) (block 4 x) (p / 4) (p % 4)

@@ -1,6 +1,6 @@
 -- Two passes of the inverse transform of eight columns.
-use Rattle.std.proofs.Common.{◌≡◌, ℕ, ℤ, pos, ◌+◌, ◌*◌, ◌/◌, ◌%◌, ◌<◌, ◌≤◌, List, length, sym, ap, ◌∙◌, arith, subst, lit<, lit≤}
-use Rattle.spec_residual.specs.Blocks.{Within, AllWithin, item, rounded, listed}
+use Rattle.std.proofs.Common.{◌≡◌, ℕ, ℤ, ◌+◌, ◌*◌, ◌/◌, ◌%◌, ◌<◌, List, length, ap, ◌∙◌, arith, lit<}
+use Rattle.spec_residual.specs.Blocks.{AllWithin, item, rounded}
 use Rattle.spec_residual.specs.Inverse.{line8, row8, column8, inverse8_of}
 use Rattle.transform_quant.specs.Lines.{row8_by, Turned8}
 use Rattle.transform_quant.proofs.Eight.{same8}

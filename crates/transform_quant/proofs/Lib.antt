@@ -1,3 +1,4 @@
+pub mod ByTest
 pub mod Columns
 pub mod Counted
 pub mod Eight

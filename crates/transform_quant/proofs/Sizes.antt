@@ -1,5 +1,5 @@
 -- How large a line of a transform can be.
-use Rattle.std.proofs.Common.{◌≡◌, ℕ, zero, suc, ℤ, pos, ◌+◌, ◌*◌, ◌/◌, ◌%◌, ◌<◌, ◌≤◌, ◌+ℤ◌, ◌-ℤ◌, ◌*ℤ◌, ◌≤ℤ◌, List, [], ◌∷◌, length, get_or, refl, sym, ap, ◌∙◌, arith, subst}
+use Rattle.std.proofs.Common.{◌≡◌, ℕ, zero, suc, ℤ, ◌+◌, ◌*◌, ◌/◌, ◌%◌, ◌<◌, ◌≤◌, List, sym, arith, subst}
 use Rattle.std.proofs.lemmas.Int.{ints}
 use Rattle.spec_residual.specs.Blocks.{Within, AllWithin, item}
 use Rattle.transform_quant.specs.Lines.{row4_by, Turned4, forward4_line, hadamard4_line}

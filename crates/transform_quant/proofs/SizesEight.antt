@@ -1,5 +1,5 @@
 -- How large a line of a transform of eight items can be.
-use Rattle.std.proofs.Common.{◌≡◌, ℕ, zero, suc, ℤ, pos, ◌+◌, ◌*◌, ◌/◌, ◌%◌, ◌<◌, ◌≤◌, ◌+ℤ◌, ◌-ℤ◌, ◌*ℤ◌, ◌≤ℤ◌, List, [], ◌∷◌, length, sym, ap, ◌∙◌, arith, subst}
+use Rattle.std.proofs.Common.{◌≡◌, ℕ, zero, suc, ℤ, ◌+◌, ◌*◌, ◌/◌, ◌%◌, ◌<◌, ◌≤◌, ◌+ℤ◌, ◌-ℤ◌, List, sym, arith, subst}
 use Rattle.std.proofs.lemmas.Int.{ints}
 use Rattle.spec_residual.specs.Blocks.{Within, AllWithin, item}
 use Rattle.spec_residual.specs.Inverse.{line8, ends8, last8, odd1, odd3, odd5, odd7, half, quarter}

@@ -1,8 +1,8 @@
 -- Two passes of a linear transform over a block of four columns are C·X·Cᵀ.
-use Rattle.std.proofs.Common.{◌≡◌, ℕ, zero, suc, ℤ, pos, ◌+◌, ◌*◌, ◌/◌, ◌%◌, ◌<◌, ◌+ℤ◌, ◌-ℤ◌, ◌*ℤ◌, ◌≤ℤ◌, List, [], ◌∷◌, length, get_or, refl, sym, ap, ◌∙◌, arith, subst, lit<}
+use Rattle.std.proofs.Common.{◌≡◌, ℕ, zero, suc, ℤ, ◌+◌, ◌*◌, ◌/◌, ◌%◌, ◌<◌, ◌*ℤ◌, List, [], ◌∷◌, ap, ◌∙◌, arith, lit<}
 use Rattle.std.proofs.lemmas.Int.{ints}
 use Rattle.enc_tables.specs.declared.transform.TheConstants.{FORWARD4, HADAMARD4}
-use Rattle.spec_residual.specs.Blocks.{Within, AllWithin, item, block, product, transposed, transformed, rows_of, sum_below}
+use Rattle.spec_residual.specs.Blocks.{item, block, product, transposed, transformed, rows_of, sum_below}
 use Rattle.transform_quant.specs.Lines.{row4_by, Turned4, forward4_line, hadamard4_line}
 use Rattle.transform_quant.proofs.Columns.{same4}
 

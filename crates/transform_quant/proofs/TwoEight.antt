@@ -1,5 +1,5 @@
 -- Two passes of a linear transform over a block of eight columns are C·X·Cᵀ.
-use Rattle.std.proofs.Common.{◌≡◌, ℕ, zero, suc, ℤ, pos, ◌+◌, ◌*◌, ◌/◌, ◌%◌, ◌<◌, ◌+ℤ◌, ◌-ℤ◌, ◌*ℤ◌, ◌≤ℤ◌, List, [], ◌∷◌, length, sym, ap, ◌∙◌, arith, lit<}
+use Rattle.std.proofs.Common.{◌≡◌, ℕ, zero, suc, ℤ, ◌+◌, ◌*◌, ◌/◌, ◌%◌, ◌<◌, ◌*ℤ◌, List, [], ◌∷◌, ap, ◌∙◌, arith, lit<}
 use Rattle.std.proofs.lemmas.Int.{ints}
 use Rattle.enc_tables.specs.declared.transform.TheConstants.{FORWARD8}
 use Rattle.spec_residual.specs.Blocks.{item, block, product, transposed, transformed, rows_of, sum_below}

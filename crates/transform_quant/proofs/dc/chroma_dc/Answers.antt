@@ -1,6 +1,6 @@
-use Rattle.std.proofs.Common.{◌≡◌, ◌<◌, ◌*◌, ◌+◌, ◌/◌, ◌%◌, ℕ, ℤ, List, length, arith, sym, subst, ap, ◌∙◌, lit<, lit≤}
+use Rattle.std.proofs.Common.{◌≡◌, ◌<◌, ◌/◌, ◌%◌, ℕ, ℤ, List, length, arith, sym, ap, ◌∙◌, lit<, lit≤}
 use Rattle.enc_tables.specs.declared.transform.TheConstants.{HADAMARD2}
-use Rattle.spec_residual.specs.Blocks.{AllWithin, Within, item, transformed, rows_of, block, listed}
+use Rattle.spec_residual.specs.Blocks.{item, transformed, rows_of, block}
 use Rattle.spec_residual.specs.Forward.{chroma_dc_of}
 use Rattle.spec_residual.proofs.Listed.{is_listed}
 use Rattle.transform_quant.proofs.Sizes.{all_within_more, all_within_same}

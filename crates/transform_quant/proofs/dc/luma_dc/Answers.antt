@@ -1,6 +1,6 @@
-use Rattle.std.proofs.Common.{◌≡◌, ◌<◌, ◌*◌, ◌+◌, ◌/◌, ◌%◌, ℕ, ℤ, List, length, arith, sym, subst, ap, ◌∙◌, lit<, lit≤}
+use Rattle.std.proofs.Common.{◌≡◌, ◌<◌, ◌/◌, ◌%◌, ℕ, ℤ, List, length, arith, sym, ap, ◌∙◌, lit<, lit≤}
 use Rattle.enc_tables.specs.declared.transform.TheConstants.{HADAMARD4}
-use Rattle.spec_residual.specs.Blocks.{AllWithin, Within, item, rounded, transformed, rows_of, block, listed}
+use Rattle.spec_residual.specs.Blocks.{item, rounded, transformed, rows_of, block}
 use Rattle.spec_residual.specs.Forward.{luma_dc_of}
 use Rattle.transform_quant.proofs.Sizes.{all_within_more, all_within_same}
 use Rattle.transform_quant.proofs.Shifts.{mapped_within, mapped_listed, halves_within}

@@ -1,4 +1,4 @@
-use Rattle.std.proofs.Common.{◌≡◌, ◌<◌, ℕ, length, arith}
+use Rattle.std.proofs.Common.{arith}
 use Rattle.transform_quant.proofs.Columns.{same_items}
 use Rattle.transform_quant.proofs.edges.numbers.Goals as goal
 

@@ -1,8 +1,7 @@
-use Rattle.std.proofs.Common.{◌≡◌, ◌<◌, ◌*◌, ◌+◌, ℕ, ℤ, List, length, arith, sym, ◌∙◌, subst, ap, lit<, lit≤}
-use Rattle.spec_residual.specs.Blocks.{AllWithin, Within, item}
+use Rattle.std.proofs.Common.{ℤ, List, arith, sym, ◌∙◌, subst, ap, lit<, lit≤}
+use Rattle.spec_residual.specs.Blocks.{Within, item}
 use Rattle.spec_residual.specs.Forward.{forward4_of}
-use Rattle.transform_quant.specs.Lines.{forward4_line, row4_by, Turned4}
-use Rattle.transform_quant.proofs.Sizes.{all_within_more, all_within_same, within_more}
+use Rattle.transform_quant.proofs.Sizes.{all_within_more, all_within_same}
 use Rattle.transform_quant.proofs.ForwardPasses.{forward4_is, forward4_rows_small, forward4_small, forward4_first_small}
 use Rattle.transform_quant.proofs.forward.forward4.Goals as goal
 

@@ -1,4 +1,4 @@
-use Rattle.std.proofs.Common.{◌≡◌, ◌<◌, ◌+◌, ◌*◌, ℕ, arith, length}
+use Rattle.std.proofs.Common.{arith}
 use Rattle.transform_quant.specs.Lines.{forward4_line, row4_by}
 use Rattle.transform_quant.proofs.Columns.{columns4_next, line4_read}
 use Rattle.transform_quant.proofs.forward.forward4_pass.Goals as goal

@@ -1,4 +1,4 @@
-use Rattle.std.proofs.Common.{◌≡◌, ◌<◌, ◌*◌, ◌+◌, ◌/◌, ◌%◌, ℕ, ℤ, List, length, arith, sym, ◌∙◌, ap, lit<, lit≤}
+use Rattle.std.proofs.Common.{◌≡◌, ◌<◌, ◌/◌, ◌%◌, ℕ, ℤ, List, length, arith, sym, ◌∙◌, ap, lit<, lit≤}
 use Rattle.enc_tables.specs.declared.transform.TheConstants.{FORWARD8}
 use Rattle.spec_residual.specs.Blocks.{AllWithin, item, rounded, block, transformed, rows_of}
 use Rattle.spec_residual.specs.Forward.{forward8_of}

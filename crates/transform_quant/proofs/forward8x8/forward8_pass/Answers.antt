@@ -1,4 +1,4 @@
-use Rattle.std.proofs.Common.{◌≡◌, ◌<◌, ◌+◌, ◌*◌, ℕ, arith, length}
+use Rattle.std.proofs.Common.{arith}
 use Rattle.transform_quant.specs.Lines.{forward8_line, row8_by}
 use Rattle.transform_quant.proofs.Eight.{columns8_next, line8_read}
 use Rattle.transform_quant.proofs.forward8x8.forward8_pass.Goals as goal

@@ -1,6 +1,6 @@
-use Rattle.std.proofs.Common.{◌≡◌, get_or, ◌<◌, ◌*◌, ◌+◌, ℕ, ℤ, List, length, arith, sym, subst, ap, ◌∙◌, pos}
+use Rattle.std.proofs.Common.{◌≡◌, get_or, ◌*◌, ℤ, List, length, arith, sym, ap, ◌∙◌, pos}
 use Rattle.std.proofs.lemmas.List.{get_or_default}
-use Rattle.spec_residual.specs.Blocks.{AllWithin, Within, item}
+use Rattle.spec_residual.specs.Blocks.{item}
 use Rattle.transform_quant.specs.Lines.{hadamard2_sums}
 use Rattle.transform_quant.proofs.Columns.{same4}
 use Rattle.transform_quant.proofs.Sizes.{all_within_same}

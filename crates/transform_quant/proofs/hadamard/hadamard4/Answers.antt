@@ -1,7 +1,5 @@
-use Rattle.std.proofs.Common.{◌≡◌, ◌<◌, ◌*◌, ◌+◌, ℕ, ℤ, List, length, arith, sym, lit≤}
-use Rattle.spec_residual.specs.Blocks.{AllWithin, Within, item}
-use Rattle.transform_quant.specs.Lines.{hadamard4_line, row4_by, Turned4}
-use Rattle.transform_quant.proofs.Sizes.{all_within_more, hadamard4_grows, pass4_within}
+use Rattle.transform_quant.specs.Lines.{hadamard4_line}
+use Rattle.transform_quant.proofs.Sizes.{hadamard4_grows, pass4_within}
 use Rattle.transform_quant.proofs.HadamardPasses.{hadamard4_is, hadamard4_small}
 use Rattle.transform_quant.proofs.hadamard.hadamard4.Goals as goal
 

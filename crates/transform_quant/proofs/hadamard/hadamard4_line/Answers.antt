@@ -1,6 +1,5 @@
-use Rattle.std.proofs.Common.{◌≡◌, ℕ, ℤ, pos, ◌+ℤ◌, ◌-ℤ◌, ◌≤ℤ◌, arith}
+use Rattle.std.proofs.Common.{arith}
 use Rattle.std.proofs.lemmas.Int.{ints}
-use Rattle.spec_residual.specs.Blocks.{Within}
 use Rattle.transform_quant.proofs.hadamard.hadamard4_line.Goals as goal
 
 pub plus-requires : goal.plus-requires

@@ -1,7 +1,5 @@
-use Rattle.std.proofs.Common.{◌≡◌, ◌<◌, ◌*◌, ◌+◌, ℕ, ℤ, List, length, arith, sym, ap, ◌∙◌, lit<, lit≤}
-use Rattle.spec_residual.specs.Blocks.{AllWithin, item, rounded}
-use Rattle.spec_residual.specs.Inverse.{line4, inverse4_of}
-use Rattle.transform_quant.specs.Lines.{row4_by, Turned4}
+use Rattle.std.proofs.Common.{ℤ, List, arith, sym, ap, ◌∙◌, lit<, lit≤}
+use Rattle.spec_residual.specs.Inverse.{inverse4_of}
 use Rattle.transform_quant.proofs.Sizes.{all_within_more, all_within_same}
 use Rattle.transform_quant.proofs.InversePasses.{inverse4_is, inverse4_small}
 use Rattle.transform_quant.proofs.inverse.inverse4.Goals as goal

@@ -1,4 +1,4 @@
-use Rattle.std.proofs.Common.{◌≡◌, ◌<◌, ◌+◌, ◌*◌, ℕ, arith, length}
+use Rattle.std.proofs.Common.{arith}
 use Rattle.transform_quant.specs.Lines.{row4_by}
 use Rattle.spec_residual.specs.Inverse.{line4}
 use Rattle.transform_quant.proofs.Columns.{columns4_next, line4_read}

@@ -1,6 +1,5 @@
-use Rattle.std.proofs.Common.{◌≡◌, ℕ, ℤ, pos, ◌+ℤ◌, ◌-ℤ◌, ◌≤ℤ◌, arith}
+use Rattle.std.proofs.Common.{arith}
 use Rattle.std.proofs.lemmas.Int.{ints}
-use Rattle.spec_residual.specs.Blocks.{Within}
 use Rattle.transform_quant.proofs.inverse8x8.even.Goals as goal
 
 pub returns-clause-third_size : goal.returns-clause-third_size

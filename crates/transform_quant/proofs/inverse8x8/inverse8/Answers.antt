@@ -1,7 +1,5 @@
-use Rattle.std.proofs.Common.{◌≡◌, ◌<◌, ◌*◌, ◌+◌, ℕ, ℤ, List, length, arith, sym, ap, ◌∙◌, lit<, lit≤}
-use Rattle.spec_residual.specs.Blocks.{AllWithin, item, rounded}
-use Rattle.spec_residual.specs.Inverse.{line8, inverse8_of}
-use Rattle.transform_quant.specs.Lines.{row8_by, Turned8}
+use Rattle.std.proofs.Common.{ℤ, List, arith, sym, ap, ◌∙◌, lit<, lit≤}
+use Rattle.spec_residual.specs.Inverse.{inverse8_of}
 use Rattle.transform_quant.proofs.Sizes.{all_within_more, all_within_same}
 use Rattle.transform_quant.proofs.InverseEight.{inverse8_is, inverse8_small}
 use Rattle.transform_quant.proofs.inverse8x8.inverse8.Goals as goal

@@ -1,4 +1,4 @@
-use Rattle.std.proofs.Common.{◌≡◌, ◌<◌, ◌+◌, ◌*◌, ℕ, arith, length}
+use Rattle.std.proofs.Common.{arith}
 use Rattle.transform_quant.specs.Lines.{row8_by}
 use Rattle.spec_residual.specs.Inverse.{line8}
 use Rattle.transform_quant.proofs.Eight.{columns8_next, line8_read}

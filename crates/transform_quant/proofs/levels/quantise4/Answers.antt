@@ -1,12 +1,11 @@
-use Rattle.std.proofs.Common.{◌≡◌, ◌<◌, ◌≤◌, ◌+◌, ◌*◌, ℕ, ℤ, pos, List, Bool, length, get_or, arith, ◌∙◌, sym, ap, subst, w16, w32}
+use Rattle.std.proofs.Common.{◌≡◌, ◌<◌, ℕ, ℤ, List, Bool, length, get_or, arith, ◌∙◌, sym, ap, subst, w16, w32}
 use Rattle.std.proofs.lemmas.Int.{to_z-of_z}
 use Rattle.std.proofs.lemmas.List.{length-set}
 use mir.Val.{SFits}
 use Rattle.enc_tables.specs.declared.transform.TheConstants.{ZIGZAG4}
 use Rattle.spec_residual.specs.declared.BlockKind.{BlockKind}
-use Rattle.spec_residual.specs.declared.BlockKind.TheVariants.{Luma8, ChromaDc}
-use Rattle.spec_residual.specs.Blocks.{AllWithin, Within, item, listed}
-use Rattle.spec_residual.specs.Levels.{level_of, levels4_of, greatest}
+use Rattle.spec_residual.specs.Blocks.{Within, item}
+use Rattle.spec_residual.specs.Levels.{level_of, levels4_of}
 use Rattle.spec_residual.proofs.Bounds.{in_row, level_small}
 use Rattle.spec_residual.proofs.Listed.{is_listed}
 use Rattle.transform_quant.proofs.Counted.{levels_next, count_next, all_counted, one_small, fits_from_within}
@@ -26,7 +25,7 @@ loop-scan-preserved c =
       long = simp length-set c.loop-scan.invariant.long;
       done = levels_next (level_at c.args.kind c.args.intra c.args.qp c.args.c.now) c.loop-scan.levels c.loop-scan.scan _ (omega arith) is c.loop-scan.invariant.done;
       few = omega arith;
-      counted = count_next c.loop-scan.levels c.loop-scan.scan _ _ _ (omega arith) c.loop-scan.invariant.counted c.one_if_nonzero-nonzero.ensures
+      counted = count_next c.loop-scan.levels c.loop-scan.scan _ _ _ (omega arith) c.loop-scan.invariant.counted c.one_if_nonzero-nonzero.ensures;
     }
 
 value : (kind : BlockKind) (intra : Bool) (qp : ℕ) (xs out : List ℤ) → length out ≡ 16 → ((k : ℕ) → k < 16 → item out k ≡ level_at kind intra qp xs k) → out ≡ levels4_of kind intra qp xs

@@ -1,13 +1,10 @@
-use Rattle.std.proofs.Common.{◌≡◌, ◌<◌, ◌≤◌, ◌+◌, ◌*◌, ℕ, ℤ, pos, List, Bool, length, get_or, arith, ◌∙◌, sym, ap, subst, w16, w32}
-use Rattle.std.proofs.lemmas.Int.{to_z-of_z}
-use mir.Val.{SFits}
-use Rattle.spec_residual.specs.declared.BlockKind.{BlockKind}
-use Rattle.spec_residual.specs.declared.BlockKind.TheVariants.{Luma8, ChromaDc}
-use Rattle.spec_residual.specs.Blocks.{AllWithin, Within, item, listed}
-use Rattle.spec_residual.specs.Levels.{level_of, chroma_dc_levels_of, greatest}
-use Rattle.spec_residual.proofs.Bounds.{in_row, level_small}
+use Rattle.std.proofs.Common.{◌≡◌, ◌<◌, ℕ, ℤ, List, Bool, length, arith, sym, subst}
+use Rattle.spec_residual.specs.declared.BlockKind.TheVariants.{ChromaDc}
+use Rattle.spec_residual.specs.Blocks.{Within, item}
+use Rattle.spec_residual.specs.Levels.{level_of, chroma_dc_levels_of}
+use Rattle.spec_residual.proofs.Bounds.{level_small}
 use Rattle.spec_residual.proofs.Listed.{is_listed}
-use Rattle.transform_quant.proofs.Counted.{levels_next, count_next, all_counted, one_small, fits_from_within}
+use Rattle.transform_quant.proofs.Counted.{all_counted}
 use Rattle.transform_quant.proofs.levels.quantise_chroma_dc.Goals as goal
 
 abbrev level_at : Bool → ℕ → List ℤ → ℕ → ℤ

@@ -1,4 +1,4 @@
-use Rattle.std.proofs.Common.{◌≡◌, ◌≤◌, ◌<◌, ℕ, length, take, get_or}
+use Rattle.std.proofs.Common.{◌≡◌, ◌≤◌, ◌<◌, ℕ, length, take}
 use Rattle.std.specs.List.{count_by}
 use Rattle.spec_residual.specs.declared.BlockKind.TheVariants.{ChromaDc}
 use Rattle.spec_residual.specs.Blocks.{is_nonzero, item}

@@ -1,4 +1,4 @@
-use Rattle.std.proofs.Common.{◌≡◌, ◌≤◌, ◌<◌, ◌*◌, ◌%◌, ◌^◌, ℕ, arith, ◌∙◌, lit<}
+use Rattle.std.proofs.Common.{◌≤◌, ◌^◌, arith, lit<}
 use Rattle.std.proofs.Math.Nat.{pow-le-pow_right}
 use Rattle.std.proofs.lemmas.Nat.{one_shl}
 use Rattle.transform_quant.proofs.quant.power_of_two.Goals as goal

@@ -1,4 +1,4 @@
-use Rattle.std.proofs.Common.{◌≡◌, ◌≤◌, ◌<◌, ◌+◌, ◌*◌, ◌/◌, ◌^◌, ℕ, ℤ, arith, rules, ◌∙◌, sym, ap, subst, w16, w32, Bool}
+use Rattle.std.proofs.Common.{◌≡◌, ℕ, ℤ, arith, ◌∙◌, sym, ap, subst, w16, w32, Bool}
 use Rattle.std.proofs.lemmas.Int.{to_z-of_z}
 use mir.Val.{SFits, to_z, of_z}
 use Rattle.spec_residual.specs.declared.BlockKind.{BlockKind}

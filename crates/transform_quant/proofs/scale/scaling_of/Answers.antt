@@ -1,4 +1,4 @@
-use Rattle.std.proofs.Common.{◌≤◌, ◌%◌}
+use Rattle.std.proofs.Common.{◌%◌}
 use Rattle.enc_tables.specs.declared.transform.TheConstants.{SCALING8}
 use Rattle.spec_residual.proofs.Bounds.{in_rows}
 use Rattle.transform_quant.proofs.scale.scaling_of.Goals as goal

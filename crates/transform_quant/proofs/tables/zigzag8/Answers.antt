@@ -1,4 +1,4 @@
-use Rattle.std.proofs.Common.{◌<◌, arith}
+use Rattle.std.proofs.Common.{arith}
 use Rattle.enc_tables.specs.declared.transform.TheConstants.{ZIGZAG8}
 use Rattle.spec_residual.proofs.Bounds.{in_row}
 use Rattle.transform_quant.proofs.tables.zigzag8.Goals as goal
