@@ -165,7 +165,7 @@ plane_is size across down first samples macroblocks some wide long each =
         (λ i below. samples_at size across down first samples macroblocks some wide long each i below))
 
 -- a block of macroblock k lies in its plane
-block_long : (size across down k : ℕ) (samples : List ℕ) → 0 < across → length samples ≡ size * across * (size * down) → k < across * down
+pub block_long : (size across down k : ℕ) (samples : List ℕ) → 0 < across → length samples ≡ size * across * (size * down) → k < across * down
     → length (block_at (size * across) size size (size * (k % across)) (size * (k / across)) samples) ≡ size * size
 block_long size across down k samples wide long below =
     length-block_at (size * across) size size (size * (k % across)) (size * (k / across)) samples in_row in_plane
