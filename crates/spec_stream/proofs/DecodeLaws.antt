@@ -1,5 +1,5 @@
 -- What a decoder shows of a stored stream.
-use Rattle.std.proofs.Common.{ℕ, zero, suc, ◌+◌, ◌-◌, ◌*◌, ◌/◌, ◌%◌, ◌^◌, ◌≡◌, ◌≤◌, ◌<◌, List, [], ◌∷◌, ◌++◌, length, map, replicate, Bool, true, false, cond, Option, Some, None, refl, ap, ap₂, sym, ◌∙◌, subst, arith, append_assoc, append-nil, length-append, mul-pos, lit<}
+use Rattle.std.proofs.Common.{ℕ, ◌+◌, ◌-◌, ◌*◌, ◌%◌, ◌≡◌, ◌≤◌, ◌<◌, List, [], ◌∷◌, ◌++◌, length, map, replicate, Bool, true, false, cond, Option, Some, None, refl, ap, ap₂, sym, ◌∙◌, subst, arith, append_assoc, append-nil, length-append, mul-pos, lit<}
 use Rattle.std.specs.Prelude.{◌&&◌, nat_le, nat_lt, ◌==◌, option_and_then}
 use Rattle.std.specs.Option.{option_map}
 use Rattle.std.specs.List.{flat_map, All}
@@ -7,11 +7,10 @@ use Rattle.std.proofs.lemmas.Bool.Decides.{nat_tests}
 use Rattle.std.proofs.lemmas.List.{length-replicate}
 use Rattle.std.proofs.lemmas.List.Elements.{All-nil, All-cons, All-head, All-tail}
 use Rattle.spec_bits.specs.declared.heads.SeqHead.{SeqHead}
-use Rattle.spec_bits.specs.declared.heads.SliceHead.{SliceHead}
-use Rattle.spec_bits.specs.Bits.{digits, bits_of_bytes, bytes_of_bits}
+use Rattle.spec_bits.specs.Bits.{digits, bytes_of_bits}
 use Rattle.spec_bits.specs.Golomb.{trail_bits}
 use Rattle.spec_bits.specs.Fields.{fields_bits}
-use Rattle.spec_bits.specs.Heads.{sequence_fields, picture_fields, slice_fields, sequence_payload, picture_payload, slice_head_bits}
+use Rattle.spec_bits.specs.Heads.{sequence_fields, picture_fields, sequence_payload, picture_payload, slice_head_bits}
 use Rattle.spec_bits.specs.Allowed.{IsSeqHead}
 use Rattle.spec_bits.specs.Units.{Nal, IsNal, EndsWell, written, units_of}
 use Rattle.spec_bits.proofs.Digits.{length-digits, bits_of_bytes-bytes_of_bits}
@@ -23,10 +22,8 @@ use Rattle.spec_reading.proofs.HeadLaws.{reads_sequence, reads_picture, reads_id
 use Rattle.spec_film.specs.declared.FilmHead.{FilmHead}
 use Rattle.spec_film.specs.Films.{Planes, AllowedHead}
 use Rattle.spec_stream.specs.Stored.{pcm_slice_bits, macroblocks_of, mbs_across, mbs_down, stored_sequence, stored_slice_head, stored_slice_bits, stored_picture, stored_pictures, stored_stream}
-use Rattle.spec_stream.specs.Pcm.{pcm_macroblocks}
-use Rattle.spec_stream.specs.Samples.{picture_from, cropped}
 use Rattle.spec_stream.specs.Pictures.{IsPicture}
-use Rattle.spec_stream.specs.Decode.{is_trail, ended, read_set, Slice, slice_of, read_slice, Decoder, start, placed, pictures_in, shown, joined, slice_step, with_slice, between, step, steps, all_shown, decode}
+use Rattle.spec_stream.specs.Decode.{is_trail, ended, read_set, Slice, slice_of, read_slice, Decoder, start, placed, pictures_in, shown, joined, slice_step, with_slice, step, steps, all_shown, decode}
 use Rattle.spec_stream.proofs.Ends.{ends_in_128, ends_in_trail}
 use Rattle.spec_stream.proofs.PcmLaws.{all_zeros, slice_whole, slice_long, pcm_macroblocks-back}
 use Rattle.spec_stream.proofs.PictureLaws.{macroblocks_are, length-macroblocks_of, across_some, down_some, has_planes, picture_back}
@@ -93,10 +90,13 @@ slice_bits_whole across down number p some =
   where
     head : List Bool
     head = slice_head_bits (stored_slice_head number)
+
     ms : List (List ℕ)
     ms = macroblocks_of across down p
+
     body : List Bool
     body = pcm_slice_bits (length head) ms
+
     eight : (a b : ℕ) → (a + b) % 8 ≡ 0 → (a + (b + 8)) % 8 ≡ 0
     eight a b h = omega arith
 
@@ -115,12 +115,16 @@ slice_back h number p allowed is =
   where
     head : List Bool
     head = slice_head_bits (stored_slice_head number)
+
     ms : List (List ℕ)
     ms = macroblocks_of (mbs_across h) (mbs_down h) p
+
     body : List Bool
     body = pcm_slice_bits (length head) ms
+
     made : List (List ℕ) → Slice
     made ms = record { head = stored_slice_head number; macroblocks = ms }
+
     enough : length ms < length (body ++ digits 8 128)
     enough = omega (arith, length-append body (digits 8 128), length-digits 8 128, slice_long (length head) ms)
 
@@ -143,7 +147,7 @@ step_picture s flags period out = ap (λ o. option_map (λ t. record (between_pi
 -- a whole picture
 joined_whole : (h : FilmHead) (number : ℕ) (p : Planes) (d : Decoder) → AllowedHead h → IsPicture h p
     → joined (stored_sequence h) (stored_slice_head number) (macroblocks_of (mbs_across h) (mbs_down h) p) d
-        ≡ Some (between_pictures d.sequence_set d.picture_set ((0, p) ∷ []) (d.out ++ pictures_in d.period))
+    ≡ Some (between_pictures d.sequence_set d.picture_set ((0, p) ∷ []) (d.out ++ pictures_in d.period))
 unfolding joined shown placed between_pictures
 joined_whole h number p d allowed is =
     ap₂ (λ a b. cond a (Some (record d { begun = ms })) (cond b (Some (shown (stored_sequence h) (stored_slice_head number) ms d)) None)) (not_fewer (length ms) _ count) (as_many (length ms) _ count)
@@ -151,16 +155,19 @@ joined_whole h number p d allowed is =
   where
     ms : List (List ℕ)
     ms = macroblocks_of (mbs_across h) (mbs_down h) p
+
     count : length ms ≡ mbs_across h * mbs_down h
     count = length-macroblocks_of (mbs_across h) (mbs_down h) p
+
     not_fewer : (a b : ℕ) → a ≡ b → nat_lt a b ≡ false
     not_fewer a b e = grind (arith, nat_tests)
+
     as_many : (a b : ℕ) → a ≡ b → (a == b) ≡ true
     as_many a b e = grind (arith, nat_tests)
 
 step_slice : (h : FilmHead) (number : ℕ) (p : Planes) (period : List (ℕ × Planes)) (out : List Planes) → AllowedHead h → IsPicture h p
     → step (between_pictures (Some (stored_sequence h)) (Some (false, false)) period out) (record { ref_idc = 3; kind = 5; payload = slice_nal h number p })
-        ≡ Some (between_pictures (Some (stored_sequence h)) (Some (false, false)) ((0, p) ∷ []) (out ++ pictures_in period))
+    ≡ Some (between_pictures (Some (stored_sequence h)) (Some (false, false)) ((0, p) ∷ []) (out ++ pictures_in period))
 unfolding step with_slice between_pictures the_slice
 step_slice h number p period out allowed is =
     ap (λ o. option_and_then (slice_step (stored_sequence h) (between_pictures (Some (stored_sequence h)) (Some (false, false)) period out)) o) (slice_back h number p allowed is)
@@ -190,10 +197,13 @@ stored_pictures-units h number (p ∷ ps) =
   where
     a : List ℕ
     a = written (true, sequence_unit h)
+
     b : List ℕ
     b = written (true, picture_unit)
+
     c : List ℕ
     c = written (false, slice_unit h number p)
+
     rest : List ℕ
     rest = flat_map written (stored_units h (number + 1) ps)
 
@@ -211,10 +221,13 @@ slice_is_nal h number p allowed = record { ref_idc = lit< tt; kind_from = lit< t
   where
     head : List Bool
     head = slice_head_bits (stored_slice_head number)
+
     ms : List (List ℕ)
     ms = macroblocks_of (mbs_across h) (mbs_down h) p
+
     body : List Bool
     body = pcm_slice_bits (length head) ms
+
     whole : length (head ++ body) % 8 ≡ 0
     whole = ap (λ n. n % 8) (length-append head body) ∙ slice_whole (length head) ms (subst (λ n. 0 < n) (sym (length-macroblocks_of (mbs_across h) (mbs_down h) p)) (mul-pos (across_some h allowed) (down_some h allowed)))
 
@@ -223,11 +236,12 @@ unfolding stored_units
 units_are h number [] allowed = All-nil (λ (u : Bool × Nal). IsNal u.1)
 units_are h number (p ∷ ps) allowed =
     All-cons P (true, sequence_unit h) ((true, picture_unit) ∷ (false, slice_unit h number p) ∷ rest) (sequence_is_nal h)
-        (All-cons P (true, picture_unit) ((false, slice_unit h number p) ∷ rest) picture_is_nal
-            (All-cons P (false, slice_unit h number p) rest (slice_is_nal h number p allowed) (units_are h (number + 1) ps allowed)))
+    (All-cons P (true, picture_unit) ((false, slice_unit h number p) ∷ rest) picture_is_nal
+    (All-cons P (false, slice_unit h number p) rest (slice_is_nal h number p allowed) (units_are h (number + 1) ps allowed)))
   where
     rest : List (Bool × Nal)
     rest = stored_units h (number + 1) ps
+
     P : Bool × Nal → Type 0
     P u = IsNal u.1
 

@@ -1,10 +1,9 @@
 -- The pictures of a film of bytes.
-use Rattle.std.proofs.Common.{ℕ, zero, suc, ◌+◌, ◌≡◌, List, [], ◌∷◌, length, take, drop, Option, Some, None, Bool, true, false, cond, refl, ap, sym, ◌∙◌, subst, arith}
+use Rattle.std.proofs.Common.{ℕ, zero, suc, ◌+◌, ◌≡◌, List, [], ◌∷◌, length, drop, Option, Some, None, refl, ap, sym, ◌∙◌, subst, arith}
 use Rattle.std.specs.List.{All}
 use Rattle.std.proofs.lemmas.List.Elements.{All-nil, All-cons, All-take, All-drop}
 use Rattle.spec_bits.specs.Bits.{IsByte}
 use Rattle.spec_film.specs.declared.FilmHead.{FilmHead}
-use Rattle.spec_film.specs.declared.InputFault.{InputFault}
 use Rattle.spec_film.specs.Films.{Planes, Film, AllowedHead, luma_count, chroma_count, planes_count, planes_at, has_picture, read_picture, FrameStep, Over, Next, Broken, step_from, frame_step, pictures_of, most_pictures, head_with, head_of_line, line_of, has_line, read_head, film_from, film_of}
 use Rattle.spec_film.proofs.FilmLaws.{given, next_lengths, pictures_over, pictures_broken, pictures_next, head_allowed, next_none}
 use Rattle.spec_stream.specs.Pictures.{IsPicture}
@@ -72,7 +71,7 @@ pictures_are (suc more) head bytes small = go (frame_step (suc more) head bytes)
     go (Next p rest) is after =
         let are = next_bytes (suc more) head bytes p rest small is in
         subst (λ r. All (IsPicture head) r.0) (sym (pictures_next (suc more) more head bytes p rest is (omega arith)))
-            (All-cons (IsPicture head) p (pictures_of more head rest).0 (picture_is (suc more) head bytes p rest small is) (after rest are.behind))
+        (All-cons (IsPicture head) p (pictures_of more head rest).0 (picture_is (suc more) head bytes p rest small is) (after rest are.behind))
 
 -- the bytes behind the head
 head_rest : (bytes : List ℕ) (head : FilmHead) (rest : List ℕ) → All IsByte bytes → read_head bytes ≡ Some (head, rest) → All IsByte rest

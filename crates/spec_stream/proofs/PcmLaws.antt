@@ -1,5 +1,5 @@
 -- Macroblocks of samples are read back from their bits.
-use Rattle.std.proofs.Common.{ℕ, zero, suc, ◌+◌, ◌-◌, ◌*◌, ◌/◌, ◌%◌, ◌^◌, ◌≡◌, ◌≤◌, ◌<◌, List, [], ◌∷◌, ◌++◌, length, take, drop, replicate, Bool, true, false, cond, Option, Some, None, refl, ap, ap₂, sym, ◌∙◌, subst, arith, append_assoc, length-append, lit<}
+use Rattle.std.proofs.Common.{ℕ, zero, suc, ◌+◌, ◌*◌, ◌%◌, ◌≡◌, ◌≤◌, ◌<◌, List, [], ◌∷◌, ◌++◌, length, take, drop, replicate, Bool, true, false, cond, Option, Some, None, refl, ap, ap₂, ◌∙◌, arith, append_assoc, length-append, lit<}
 use Rattle.std.specs.Prelude.{not, nat_le, option_and_then}
 use Rattle.std.specs.Option.{option_map}
 use Rattle.std.specs.List.{list_all, All}
@@ -9,7 +9,6 @@ use Rattle.std.proofs.lemmas.List.Elements.{All-head, All-tail}
 use Rattle.spec_bits.specs.Bits.{digits, bits_of_bytes, bytes_of_bits, IsByte}
 use Rattle.spec_bits.specs.Golomb.{ue_bits, align_bits, to_byte}
 use Rattle.spec_bits.proofs.Digits.{length-digits, length-bits_of_bytes, bytes_of_bits-bits_of_bytes}
-use Rattle.spec_bits.proofs.Codes.{length-align_bits}
 use Rattle.spec_reading.specs.Reader.{read, ue}
 use Rattle.spec_reading.proofs.Laws.{reads_ue}
 use Rattle.spec_stream.specs.Stored.{pcm_bits, pcm_slice_bits}
@@ -49,6 +48,7 @@ counted n xs ys h =
   where
     test : (m : ℕ) → n ≤ m → nat_le n m ≡ true
     test m h = grind (arith, nat_tests)
+
     enough : nat_le n (length (xs ++ ys)) ≡ true
     enough = test (length (xs ++ ys)) (omega (arith, length-append xs ys))
 
@@ -62,7 +62,7 @@ zeros_count : (before : ℕ) (m : List ℕ) (rest : List Bool) → IsMacroblock 
     → length (replicate (to_byte before) false ++ (bits_of_bytes m ++ rest)) % 8 ≡ to_byte before
 zeros_count before m rest is whole =
     ap (λ n. n % 8) (length-append (replicate (to_byte before) false) (bits_of_bytes m ++ rest)
-        ∙ ap₂ (λ a b. a + b) (zeros_long (to_byte before)) (length-append (bits_of_bytes m) rest ∙ ap (λ n. n + length rest) (length-bits_of_bytes m)))
+    ∙ ap₂ (λ a b. a + b) (zeros_long (to_byte before)) (length-append (bits_of_bytes m) rest ∙ ap (λ n. n + length rest) (length-bits_of_bytes m)))
     ∙ count (length m) (length rest) whole
   where
     count : (n r : ℕ) → r % 8 ≡ 0 → (to_byte before + (8 * n + r)) % 8 ≡ to_byte before
@@ -79,10 +79,13 @@ pcm_macroblock-back before m rest is whole =
   where
     from : ℕ
     from = before + length (ue_bits 25)
+
     zeros : List Bool
     zeros = replicate (to_byte from) false
+
     samples : List Bool
     samples = bits_of_bytes m
+
     apart : (ue_bits 25 ++ (zeros ++ samples)) ++ rest ≡ ue_bits 25 ++ (zeros ++ (samples ++ rest))
     apart = append_assoc (ue_bits 25) (zeros ++ samples) rest ∙ ap (λ bits. ue_bits 25 ++ bits) (append_assoc zeros samples rest)
 
@@ -139,13 +142,15 @@ pcm_macroblocks-back (suc most) before (m ∷ ms) few are =
     ap (λ bits. pcm_macroblocks (suc most) bits) (append_assoc here more (digits 8 128))
     ∙ ap (λ b. cond b (Some []) (option_and_then (λ m. option_map (λ ms. m.0 ∷ ms) (pcm_macroblocks most m.1)) (pcm_macroblock (here ++ (more ++ digits 8 128))))) (not_trailing before m (more ++ digits 8 128))
     ∙ ap (λ o. option_and_then (λ m. option_map (λ ms. m.0 ∷ ms) (pcm_macroblocks most m.1)) o)
-        (pcm_macroblock-back before m (more ++ digits 8 128) (All-head IsMacroblock m ms are) whole)
+    (pcm_macroblock-back before m (more ++ digits 8 128) (All-head IsMacroblock m ms are) whole)
     ∙ ap (λ o. option_map (λ ms. m ∷ ms) o) (pcm_macroblocks-back most (before + length here) ms (omega arith) (All-tail IsMacroblock m ms are))
   where
     here : List Bool
     here = pcm_bits before m
+
     more : List Bool
     more = pcm_slice_bits (before + length here) ms
+
     whole : length (more ++ digits 8 128) % 8 ≡ 0
     whole = ap (λ n. n % 8) (length-append more (digits 8 128) ∙ ap (λ n. length more + n) (length-digits 8 128))
         ∙ eight (length more) (whole_behind (before + length here) ms (pcm_bits-whole before m))

@@ -1,7 +1,7 @@
 -- Pictures of a film, cut into macroblocks.
-use Rattle.std.proofs.Common.{ℕ, zero, suc, ◌+◌, ◌-◌, ◌*◌, ◌/◌, ◌%◌, ◌≡◌, ◌≤◌, ◌<◌, List, [], ◌∷◌, ◌++◌, length, take, drop, map, refl, ap, ap₂, sym, ◌∙◌, subst, arith, length-append, lit<}
+use Rattle.std.proofs.Common.{ℕ, zero, suc, ◌+◌, ◌*◌, ◌/◌, ◌%◌, ◌≡◌, ◌≤◌, ◌<◌, List, [], ◌∷◌, ◌++◌, length, take, drop, ap, ap₂, sym, ◌∙◌, arith, length-append}
 use Rattle.std.specs.List.{flat_map, range_with_len, All}
-use Rattle.std.proofs.Math.Nat.{mul_comm, mul_assoc}
+use Rattle.std.proofs.Math.Nat.{mul_comm}
 use Rattle.std.proofs.lemmas.List.FromFn.{length-map-range_with_len}
 use Rattle.std.proofs.lemmas.List.Elements.{All-nil, All-cons, All-append, All-take, All-drop, All-map}
 use Rattle.spec_bits.specs.Bits.{IsByte}
@@ -20,6 +20,7 @@ block_bytes width columns rows x y samples small = go (range_with_len 0 rows)
   where
     row : ℕ → List ℕ
     row j = take columns (drop ((y + j) * width + x) samples)
+
     go : (js : List ℕ) → All IsByte (flat_map row js)
     go [] = All-nil IsByte
     go (j ∷ js) = All-append IsByte (row j) (flat_map row js) (All-take IsByte columns _ (All-drop IsByte ((y + j) * width + x) samples small)) (go js)
@@ -36,8 +37,10 @@ macroblock_is across down k p wide sizes luma cb cr below = record {
   where
     y : List ℕ
     y = block_at (16 * across) 16 16 (16 * (k % across)) (16 * (k / across)) p.luma
+
     u : List ℕ
     u = block_at (8 * across) 8 8 (8 * (k % across)) (8 * (k / across)) p.cb
+
     v : List ℕ
     v = block_at (8 * across) 8 8 (8 * (k % across)) (8 * (k / across)) p.cr
 
@@ -50,7 +53,7 @@ pub macroblocks_are : (across down : ℕ) (p : Planes) → 0 < across → HasPla
 unfolding macroblocks_of
 macroblocks_are across down p wide sizes luma cb cr =
     All-map IsMacroblock (macroblock_samples across p) (range_with_len 0 (across * down))
-        (all_below (λ k. IsMacroblock (macroblock_samples across p k)) (across * down) 0 (λ k below. macroblock_is across down k p wide sizes luma cb cr (omega arith)))
+    (all_below (λ k. IsMacroblock (macroblock_samples across p k)) (across * down) 0 (λ k below. macroblock_is across down k p wide sizes luma cb cr (omega arith)))
 
 pub length-macroblocks_of : (across down : ℕ) (p : Planes) → length (macroblocks_of across down p) ≡ across * down
 unfolding macroblocks_of
@@ -102,9 +105,9 @@ pub picture_back : (h : FilmHead) (p : Planes) → AllowedHead h → IsPicture h
 picture_back h p allowed is =
     ap (λ q. cropped (mbs_across h) h.width h.height q) (picture_is (mbs_across h) (mbs_down h) p (across_some h allowed) (has_planes h p allowed is))
     ∙ same _ _ _
-        (uncropped (16 * mbs_across h) h.width h.height p.luma (whole_width h allowed) is.luma)
-        (uncropped (8 * mbs_across h) (h.width / 2) (h.height / 2) p.cb (half _ _ (whole_width h allowed)) is.cb)
-        (uncropped (8 * mbs_across h) (h.width / 2) (h.height / 2) p.cr (half _ _ (whole_width h allowed)) is.cr)
+    (uncropped (16 * mbs_across h) h.width h.height p.luma (whole_width h allowed) is.luma)
+    (uncropped (8 * mbs_across h) (h.width / 2) (h.height / 2) p.cb (half _ _ (whole_width h allowed)) is.cb)
+    (uncropped (8 * mbs_across h) (h.width / 2) (h.height / 2) p.cr (half _ _ (whole_width h allowed)) is.cr)
   where
     same : (y u v : List ℕ) → y ≡ p.luma → u ≡ p.cb → v ≡ p.cr → (let q : Planes = record { luma = y; cb = u; cr = v } in q ≡ p)
     same y u v a b c =

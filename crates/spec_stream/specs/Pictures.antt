@@ -1,5 +1,5 @@
 -- The pictures that a film of 8-bit samples has.
-use Rattle.std.specs.Prelude.{ℕ, ◌≡◌, length}
+use Rattle.std.specs.Prelude.{◌≡◌, length}
 use Rattle.std.specs.List.{All}
 use Rattle.spec_bits.specs.Bits.{IsByte}
 use Rattle.spec_film.specs.declared.FilmHead.{FilmHead}
