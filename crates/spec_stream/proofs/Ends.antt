@@ -1,9 +1,9 @@
 -- How payloads end, and how long their units are.
-use Rattle.std.proofs.Common.{ℕ, zero, suc, ◌+◌, ◌-◌, ◌*◌, ◌/◌, ◌%◌, ◌^◌, ◌≡◌, ◌≤◌, ◌<◌, List, [], ◌∷◌, ◌++◌, length, take, drop, get_or, replicate, All, Bool, true, false, cond, refl, ap, sym, ◌∙◌, subst, arith, append_assoc, append-nil, length-append, min, lit<}
+use Rattle.std.proofs.Common.{ℕ, suc, ◌+◌, ◌-◌, ◌*◌, ◌%◌, ◌≡◌, ◌≤◌, ◌<◌, List, [], ◌∷◌, ◌++◌, length, take, drop, get_or, replicate, All, Bool, true, false, cond, refl, ap, sym, ◌∙◌, subst, arith, append_assoc, length-append, min, lit<}
 use Rattle.std.specs.Prelude.{◌&&◌, nat_le}
 use Rattle.std.proofs.lemmas.Grind.{common_steps}
 use Rattle.std.proofs.lemmas.Bool.Decides.{nat_tests}
-use Rattle.spec_bits.specs.Bits.{digits, value, digit, bits_of_bytes, bytes_of_bits, IsByte}
+use Rattle.spec_bits.specs.Bits.{digits, value, digit, bytes_of_bits, IsByte}
 use Rattle.spec_bits.specs.Golomb.{trail_bits}
 use Rattle.spec_bits.specs.Units.{escape, zeros_after, header_byte, start_code, unit_bytes, EndsWell}
 use Rattle.spec_bits.specs.Heads.{sequence_payload, picture_payload}
@@ -53,32 +53,43 @@ ends_in_trail bits = subst EndsWell (sym is) (ends_in (bytes_of_bits front) (val
   where
     n : ℕ
     n = length bits
+
     k : ℕ
     k = n % 8
+
     front : List Bool
     front = take (n - k) bits
+
     back : List Bool
     back = drop (n - k) bits
+
     zeros : List Bool
     zeros = replicate (7 - k) false
+
     both : (m : ℕ) (xs : List Bool) → xs ≡ take m xs ++ drop m xs
     both m xs = grind (arith, common_steps)
+
     front_len : (m : ℕ) (xs : List Bool) → m ≤ length xs → length (take m xs) ≡ m
     front_len m xs h = grind (arith, common_steps)
+
     back_len : (m : ℕ) (xs : List Bool) → m ≤ length xs → length (drop m xs) ≡ length xs - m
     back_len m xs h = grind (arith, common_steps)
+
     zeros_len : (m : ℕ) → length (replicate m false) ≡ m
     zeros_len m = grind (arith, common_steps)
+
     whole : length front % 8 ≡ 0
     whole = ap (λ m. m % 8) (front_len (n - k) bits (omega arith)) ∙ rest n
       where
         rest : (n : ℕ) → (n - n % 8) % 8 ≡ 0
         rest n = omega arith
+
     eight : length (back ++ (true ∷ zeros)) ≡ 8
     eight = length-append back (true ∷ zeros) ∙ sums (length back) (length zeros) (back_len (n - k) bits (omega arith)) (zeros_len (7 - k))
       where
         sums : (a b : ℕ) → a ≡ n - (n - k) → b ≡ 7 - k → a + suc b ≡ 8
         sums a b e f = omega arith
+
     is : bytes_of_bits (bits ++ (true ∷ zeros)) ≡ bytes_of_bits front ++ (value 0 (back ++ (true ∷ zeros)) ∷ [])
     is = ap (λ bs. bytes_of_bits (bs ++ (true ∷ zeros))) (both (n - k) bits) ∙ ap bytes_of_bits (append_assoc front back (true ∷ zeros))
         ∙ bytes_then front (back ++ (true ∷ zeros)) whole ∙ ap (λ bs. bytes_of_bits front ++ bs) (eight_bits (back ++ (true ∷ zeros)) eight)
@@ -120,5 +131,5 @@ pub stored_picture-are_bytes : (h : FilmHead) (number : ℕ) (p : Planes) → Al
 unfolding stored_picture sequence_payload picture_payload
 stored_picture-are_bytes h number p =
     All-append IsByte _ _ (unit_bytes-are_bytes true 3 7 (sequence_payload (stored_sequence h)) (lit< tt) (bytes_of_bits-are_bytes _))
-      (All-append IsByte _ _ (unit_bytes-are_bytes true 3 8 (picture_payload false false) (lit< tt) (bytes_of_bits-are_bytes _))
-        (unit_bytes-are_bytes false 3 5 (bytes_of_bits (stored_slice_bits (mbs_across h) (mbs_down h) number p)) (lit< tt) (bytes_of_bits-are_bytes _)))
+    (All-append IsByte _ _ (unit_bytes-are_bytes true 3 8 (picture_payload false false) (lit< tt) (bytes_of_bits-are_bytes _))
+    (unit_bytes-are_bytes false 3 5 (bytes_of_bits (stored_slice_bits (mbs_across h) (mbs_down h) number p)) (lit< tt) (bytes_of_bits-are_bytes _)))

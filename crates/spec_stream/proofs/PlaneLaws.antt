@@ -1,13 +1,13 @@
 -- The picture that a picture's macroblocks make is that picture.
-use Rattle.std.proofs.Common.{ℕ, zero, suc, ◌+◌, ◌-◌, ◌*◌, ◌/◌, ◌%◌, ◌≡◌, ◌≤◌, ◌<◌, List, [], ◌∷◌, ◌++◌, length, take, drop, map, get_or, refl, ap, sym, ◌∙◌, arith, rules, subst, inl, inr, ◌⊎◌, append-nil, append_assoc, length-append, length-drop, add-one, add-zero, zero-add, mul-pos, lit<}
-use Rattle.std.proofs.Math.Nat.{eq-or-lt_of_le, mul_comm, mul_assoc, div-lt_iff_lt-mul, mod-lt, mod-eq_of_lt, div-add-mod, mul-add-mod_self_right, mul-le-mul_left, mul-le-mul_right}
+use Rattle.std.proofs.Common.{ℕ, zero, suc, ◌+◌, ◌-◌, ◌*◌, ◌/◌, ◌%◌, ◌≡◌, ◌≤◌, ◌<◌, List, [], ◌∷◌, ◌++◌, length, take, drop, get_or, refl, ap, sym, ◌∙◌, arith, subst, inl, inr, ◌⊎◌, length-append, length-drop, add-one, zero-add, mul-pos, lit<}
+use Rattle.std.proofs.Math.Nat.{eq-or-lt_of_le, mul_comm, div-lt_iff_lt-mul, mod-lt, mod-eq_of_lt, div-add-mod, mul-add-mod_self_right, mul-le-mul_left, mul-le-mul_right}
 use Rattle.std.proofs.lemmas.Nat.{mul-add-lt, div-mul-add}
 use Rattle.std.specs.List.{flat_map, range_with_len}
 use Rattle.std.proofs.lemmas.List.FromFn.{fill_by_all, get_or-map-range_with_len}
 use Rattle.std.proofs.lemmas.Grind.{common_steps}
 use Rattle.spec_film.specs.Films.{Planes}
 use Rattle.spec_stream.specs.Stored.{block_at, macroblock_samples, macroblocks_of}
-use Rattle.spec_stream.specs.Samples.{sample_at, plane_from, picture_from, cropped_plane, cropped}
+use Rattle.spec_stream.specs.Samples.{sample_at, plane_from, picture_from, cropped_plane}
 use Rattle.spec_stream.proofs.StoredLaws.{block_at-more, block_at-none}
 
 -- the block lies in the plane: each of its rows has all its columns
@@ -24,8 +24,10 @@ length-block_at width columns (suc rows) x y samples inside long =
   where
     one_more : (y rows width : ℕ) → (y + suc rows) * width ≡ (y + rows) * width + width
     one_more y rows width = grind arith
+
     row_len : (n i : ℕ) (xs : List ℕ) → i + n ≤ length xs → length (take n (drop i xs)) ≡ n
     row_len n i xs h = grind (arith, common_steps)
+
     sums : (rows columns : ℕ) → rows * columns + columns ≡ suc rows * columns
     sums rows columns = grind arith
 
@@ -49,16 +51,22 @@ get_or-block_at width columns (suc rows) x y r c samples inside long below small
   where
     before : List ℕ
     before = block_at width columns rows x y samples
+
     last : List ℕ
     last = take columns (drop ((y + rows) * width + x) samples)
+
     below_suc : (r rows : ℕ) → r < suc rows → r ≤ rows
     below_suc r rows h = omega arith
+
     one_more : (y rows width : ℕ) → (y + suc rows) * width ≡ (y + rows) * width + width
     one_more y rows width = grind arith
+
     less : (y + rows) * width ≤ length samples
     less = let l = subst (λ n. n ≤ length samples) (one_more y rows width) long in omega arith
+
     len : length before ≡ rows * columns
     len = length-block_at width columns rows x y samples inside less
+
     go : (r < rows → get_or before (r * columns + c) 0 ≡ get_or samples ((y + r) * width + x + c) 0) → (r ≡ rows) ⊎ (r < rows) → get_or (before ++ last) (r * columns + c) 0 ≡ get_or samples ((y + r) * width + x + c) 0
     go earlier (inl same) =
         get_or-second before last c (r * columns + c) (ap (λ n. n * columns + c) same ∙ ap (λ n. n + c) (sym len))
@@ -99,46 +107,62 @@ in_block size across down i some wide below =
 -- the samples of the blocks of a plane are the samples at their places
 samples_at : (size across down first : ℕ) (samples : List ℕ) (macroblocks : List (List ℕ)) → 0 < size → 0 < across → length samples ≡ size * across * (size * down)
     → ((k j : ℕ) → k < across * down → j < size * size
-        → get_or (get_or macroblocks k []) (first + j) 0 ≡ get_or (block_at (size * across) size size (size * (k % across)) (size * (k / across)) samples) j 0)
+    → get_or (get_or macroblocks k []) (first + j) 0 ≡ get_or (block_at (size * across) size size (size * (k % across)) (size * (k / across)) samples) j 0)
     → (i : ℕ) → i < size * across * (size * down) → get_or samples i 0 ≡ sample_at across size first macroblocks i
 samples_at size across down first samples macroblocks some wide long each i below = sym (each k (d * size + c) k_below j_below ∙ at_place)
   where
     w : ℕ
     w = size * across
+
     x : ℕ
     x = i % w
+
     y : ℕ
     y = i / w
+
     b : ℕ
     b = x / size
+
     r : ℕ
     r = y / size
+
     c : ℕ
     c = x % size
+
     d : ℕ
     d = y % size
+
     k : ℕ
     k = r * across + b
+
     inside : InBlock size across down i
     inside = in_block size across down i some wide below
+
     k_below : k < across * down
     k_below = mul-add-lt r across b down inside.row inside.column
+
     j_below : d * size + c < size * size
     j_below = mul-add-lt d size c size (mod-lt y some) (mod-lt x some)
+
     column_is : k % across ≡ b
     column_is = mul-add-mod_self_right r across b ∙ mod-eq_of_lt inside.column
+
     row_is : k / across ≡ r
     row_is = div-mul-add r across b inside.column
+
     split : (a b : ℕ) → a * (b + 1) ≡ a * b + a
     split a b = grind arith
+
     in_row : size * b + size ≤ w
     in_row = let h : b + 1 ≤ across = omega (arith, inside.column) in let m : size * (b + 1) ≤ size * across = mul-le-mul_left size h in omega (arith, m, split size b)
+
     in_plane : (size * r + size) * w ≤ length samples
     in_plane =
         let h : r + 1 ≤ down = omega (arith, inside.row) in
         let m : size * (r + 1) ≤ size * down = mul-le-mul_left size h in
         let n : size * r + size ≤ size * down = omega (arith, m, split size r) in
         subst (λ l. (size * r + size) * w ≤ l) (mul_comm (size * down) w ∙ sym long) (mul-le-mul_right w n)
+
     there : (size * r + d) * w + size * b + c ≡ i
     there =
         let p : size * r + d ≡ y = div-add-mod y size in
@@ -147,6 +171,7 @@ samples_at size across down first samples macroblocks some wide long each i belo
       where
         sums : (u v z : ℕ) → u + v + z ≡ u + (v + z)
         sums u v z = omega arith
+
     at_place : get_or (block_at w size size (size * (k % across)) (size * (k / across)) samples) (d * size + c) 0 ≡ get_or samples i 0
     at_place =
         ap (λ n. get_or (block_at w size size (size * n) (size * (k / across)) samples) (d * size + c) 0) column_is
@@ -157,23 +182,25 @@ samples_at size across down first samples macroblocks some wide long each i belo
 -- the plane that the blocks make
 plane_is : (size across down first : ℕ) (samples : List ℕ) (macroblocks : List (List ℕ)) → 0 < size → 0 < across → length samples ≡ size * across * (size * down)
     → ((k j : ℕ) → k < across * down → j < size * size
-        → get_or (get_or macroblocks k []) (first + j) 0 ≡ get_or (block_at (size * across) size size (size * (k % across)) (size * (k / across)) samples) j 0)
+    → get_or (get_or macroblocks k []) (first + j) 0 ≡ get_or (block_at (size * across) size size (size * (k % across)) (size * (k / across)) samples) j 0)
     → plane_from across down size first macroblocks ≡ samples
 unfolding plane_from
 plane_is size across down first samples macroblocks some wide long each =
     sym (fill_by_all (sample_at across size first macroblocks) samples (size * across * (size * down)) 0 long
-        (λ i below. samples_at size across down first samples macroblocks some wide long each i below))
+    (λ i below. samples_at size across down first samples macroblocks some wide long each i below))
 
 -- a block of macroblock k lies in its plane
-block_long : (size across down k : ℕ) (samples : List ℕ) → 0 < across → length samples ≡ size * across * (size * down) → k < across * down
+pub block_long : (size across down k : ℕ) (samples : List ℕ) → 0 < across → length samples ≡ size * across * (size * down) → k < across * down
     → length (block_at (size * across) size size (size * (k % across)) (size * (k / across)) samples) ≡ size * size
 block_long size across down k samples wide long below =
     length-block_at (size * across) size size (size * (k % across)) (size * (k / across)) samples in_row in_plane
   where
     split : (a b : ℕ) → a * (b + 1) ≡ a * b + a
     split a b = grind arith
+
     in_row : size * (k % across) + size ≤ size * across
     in_row = let h : k % across + 1 ≤ across = omega (arith, mod-lt k wide) in let m : size * (k % across + 1) ≤ size * across = mul-le-mul_left size h in omega (arith, m, split size (k % across))
+
     in_plane : (size * (k / across) + size) * (size * across) ≤ length samples
     in_plane =
         let g : k / across < down = (div-lt_iff_lt-mul wide).1 (subst (λ n. k < n) (mul_comm across down) below) in
@@ -203,27 +230,37 @@ picture_is across down p wide sizes = same luma cb cr
   where
     ms : List (List ℕ)
     ms = macroblocks_of across down p
+
     y : ℕ → List ℕ
     y k = block_at (16 * across) 16 16 (16 * (k % across)) (16 * (k / across)) p.luma
+
     u : ℕ → List ℕ
     u k = block_at (8 * across) 8 8 (8 * (k % across)) (8 * (k / across)) p.cb
+
     v : ℕ → List ℕ
     v k = block_at (8 * across) 8 8 (8 * (k % across)) (8 * (k / across)) p.cr
+
     y_long : (k : ℕ) → k < across * down → length (y k) ≡ 256
     y_long k below = block_long 16 across down k p.luma wide sizes.luma below
+
     u_long : (k : ℕ) → k < across * down → length (u k) ≡ 64
     u_long k below = block_long 8 across down k p.cb wide sizes.cb below
+
     at_macroblock : (k i : ℕ) → k < across * down → get_or (get_or ms k []) i 0 ≡ get_or (y k ++ (u k ++ v k)) i 0
     at_macroblock k i below = ap (λ xs. get_or xs i 0) (get_or-macroblocks across down k p below)
+
     luma : plane_from across down 16 0 ms ≡ p.luma
     luma = plane_is 16 across down 0 p.luma ms (lit< tt) wide sizes.luma
         (λ k j below small. at_macroblock k (0 + j) below ∙ in_first (y k) (u k) (v k) j (subst (λ n. j < n) (sym (y_long k below)) small))
+
     cb : plane_from across down 8 256 ms ≡ p.cb
     cb = plane_is 8 across down 256 p.cb ms (lit< tt) wide sizes.cb
         (λ k j below small. at_macroblock k (256 + j) below ∙ in_second (y k) (u k) (v k) 256 j (y_long k below) (subst (λ n. j < n) (sym (u_long k below)) small))
+
     cr : plane_from across down 8 320 ms ≡ p.cr
     cr = plane_is 8 across down 320 p.cr ms (lit< tt) wide sizes.cr
         (λ k j below small. at_macroblock k (320 + j) below ∙ in_third (y k) (u k) (v k) 256 64 j (y_long k below) (u_long k below))
+
     same : plane_from across down 16 0 ms ≡ p.luma → plane_from across down 8 256 ms ≡ p.cb → plane_from across down 8 320 ms ≡ p.cr → picture_from across down ms ≡ p
     same a b c =
         ap (λ (l : List ℕ). let r : Planes = record { luma = l; cb = plane_from across down 8 256 ms; cr = plane_from across down 8 320 ms } in r) a
@@ -237,8 +274,10 @@ cropped_all width rows samples long = go rows 0 samples (zero-start samples) lon
   where
     zero-start : (samples : List ℕ) → samples ≡ drop (0 * width) samples
     zero-start samples = let e : 0 ≡ 0 * width = omega arith in ap (λ n. drop n samples) e
+
     row : ℕ → List ℕ
     row y = take width (drop (y * width) samples)
+
     go : (n a : ℕ) (rest : List ℕ) → rest ≡ drop (a * width) samples → length rest ≡ n * width → flat_map row (range_with_len a n) ≡ rest
     go zero a rest is len = let e : length rest ≡ 0 = omega (arith, len) in sym (empty rest e)
       where
@@ -252,10 +291,12 @@ cropped_all width rows samples long = go rows 0 samples (zero-start samples) lon
       where
         dropped : (a : ℕ) → drop width (drop (a * width) samples) ≡ drop ((a + 1) * width) samples
         dropped a = grind (arith, common_steps)
+
         shorter : (n l w : ℕ) → l ≡ suc n * w → l - w ≡ n * w
         shorter n l w e = let f : suc n * w ≡ n * w + w = more n w in omega (arith, e, f)
           where
             more : (n w : ℕ) → suc n * w ≡ n * w + w
             more n w = grind arith
+
         whole : (xs : List ℕ) → take width xs ++ drop width xs ≡ xs
         whole xs = grind (arith, common_steps)

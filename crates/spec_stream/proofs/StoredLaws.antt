@@ -1,15 +1,14 @@
 -- What follows from the definition of a stored stream.
 use lib.Count.{count_leading_zeros}
-use Rattle.std.proofs.Common.{ℕ, zero, suc, ◌+◌, ◌-◌, ◌*◌, ◌/◌, ◌%◌, ◌≡◌, ◌≤◌, ◌<◌, List, [], ◌∷◌, ◌++◌, length, take, drop, map, replicate, Bool, true, false, refl, ap, sym, ◌∙◌, append_assoc, append-nil, arith, rules, length-append, length-drop, subst, add-one, add-zero, zero-add}
+use Rattle.std.proofs.Common.{ℕ, zero, suc, ◌+◌, ◌*◌, ◌%◌, ◌≡◌, List, [], ◌∷◌, ◌++◌, length, take, drop, replicate, Bool, true, false, refl, ap, sym, ◌∙◌, append_assoc, append-nil, arith, length-append, add-one, add-zero, zero-add}
 use Rattle.std.specs.List.{flat_map, range_with_len}
-use Rattle.std.proofs.lemmas.List.FromFn.{map-range_with_len_more}
 use Rattle.std.proofs.lemmas.Grind.{common_steps}
 use Rattle.spec_film.specs.declared.FilmHead.{FilmHead}
 use Rattle.spec_film.specs.Films.{Planes}
 use Rattle.spec_bits.specs.Bits.{digits, bits_of_bytes}
 use Rattle.spec_bits.specs.Golomb.{ue_bits, align_bits, to_byte}
 use Rattle.spec_bits.proofs.Digits.{length-bits_of_bytes}
-use Rattle.spec_stream.specs.Stored.{block_at, macroblock_samples, pcm_bits, pcm_slice_bits, macroblocks_of, stored_picture, stored_pictures}
+use Rattle.spec_stream.specs.Stored.{block_at, pcm_bits, pcm_slice_bits, stored_picture, stored_pictures}
 
 -- pictures behind others
 pub stored_pictures-append : (h : FilmHead) (k : ℕ) (ps qs : List Planes) → stored_pictures h k (ps ++ qs) ≡ stored_pictures h k ps ++ stored_pictures h (k + length ps) qs
@@ -38,6 +37,7 @@ block_at-more width columns rows x y samples =
   where
     row : ℕ → List ℕ
     row j = take columns (drop ((y + j) * width + x) samples)
+
     go : (n a : ℕ) → flat_map row (range_with_len a (suc n)) ≡ flat_map row (range_with_len a n) ++ row (a + n)
     go zero a = append-nil (row a) ∙ ap row (sym (add-zero a))
     go (suc n) a =
@@ -83,8 +83,8 @@ length-pcm_bits before samples =
     length-append (ue_bits 25) (align_bits (before + length (ue_bits 25)) ++ bits_of_bytes samples)
     ∙ ap (λ n. n + length (align_bits (before + n) ++ bits_of_bytes samples)) nine
     ∙ ap (λ n. 9 + n) (length-append (align_bits (before + 9)) (bits_of_bytes samples)
-        ∙ ap (λ n. n + length (bits_of_bytes samples)) (aligned (to_byte (before + 9)))
-        ∙ ap (λ n. to_byte (before + 9) + n) (length-bits_of_bytes samples))
+    ∙ ap (λ n. n + length (bits_of_bytes samples)) (aligned (to_byte (before + 9)))
+    ∙ ap (λ n. to_byte (before + 9) + n) (length-bits_of_bytes samples))
   where
     aligned : (n : ℕ) → length (replicate n false) ≡ n
     aligned n = grind (arith, common_steps)

@@ -39,10 +39,10 @@ read_slice false payload = option_and_then slice_of (read (idr_slice false) (bit
 
 pub record Decoder : Type 0 where
   pub sequence_set : Option SeqHead
-  pub picture_set : Option (Bool × Bool)        -- entropy_coding_mode_flag and transform_8x8_mode_flag
-  pub begun : List (List ℕ)                     -- the macroblocks of the picture that is being read
-  pub period : List (ℕ × Planes)                -- the pictures since the last IDR picture, by rising picture order count
-  pub out : List Planes                         -- the pictures of the periods before, in output order
+  pub picture_set : Option (Bool × Bool)  -- entropy_coding_mode_flag and transform_8x8_mode_flag
+  pub begun : List (List ℕ)  -- the macroblocks of the picture that is being read
+  pub period : List (ℕ × Planes)  -- the pictures since the last IDR picture, by rising picture order count
+  pub out : List Planes  -- the pictures of the periods before, in output order
 
 abbrev pub start : Decoder
 start = record { sequence_set = None; picture_set = None; begun = []; period = []; out = [] }

@@ -1,4 +1,5 @@
 pub mod Decode
 pub mod Pcm
+pub mod Pictures
 pub mod Samples
 pub mod Stored

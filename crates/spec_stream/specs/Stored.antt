@@ -1,5 +1,5 @@
 -- The bytes of a stored stream: for each picture a sequence parameter set, a picture parameter set and one IDR slice of I_PCM macroblocks.
-use Rattle.std.specs.Prelude.{ℕ, ◌+◌, ◌-◌, ◌*◌, ◌/◌, ◌%◌, true, false, Bool, List, [], ◌∷◌, ◌++◌, length, take, drop, map, None}
+use Rattle.std.specs.Prelude.{ℕ, ◌+◌, ◌*◌, ◌/◌, ◌%◌, true, false, Bool, List, [], ◌∷◌, ◌++◌, length, take, drop, map, None}
 use Rattle.std.specs.List.{flat_map, range_with_len}
 use Rattle.enc_tables.specs.declared.records.SliceKind.TheVariants.{I}
 use Rattle.spec_film.specs.declared.FilmHead.{FilmHead}
