@@ -74,8 +74,8 @@ stored input output head n old mid last new b e is = record {
   pictures = e.pictures;
   closed = is ∙ ap (shut (Output Stream)) (e.change ∙ ap (λ (s : Seen). wrote (Output Stream) (stored_stream head e.pictures) (took Input e.count s)) b.change ∙ further input output (stored_stream head e.pictures) n e.count old);
   whole = both (λ left. drop (n + e.count) left ≡ []) (λ left. IsFilm left head e.pictures Ended) old.input.bytes
-    (behind input output head n old mid (λ left. drop e.count left ≡ []) (λ left. drop (n + e.count) left ≡ []) b (λ left h none. sym (drop_more n e.count left) ∙ none) (e.taken refl))
-    (behind input output head n old mid (λ left. pictures_of most_pictures head left ≡ (e.pictures, Ended)) (λ left. IsFilm left head e.pictures Ended) b (λ left h all. film_whole head n e.pictures Ended left h all) e.told);
+      (behind input output head n old mid (λ left. drop e.count left ≡ []) (λ left. drop (n + e.count) left ≡ []) b (λ left h none. sym (drop_more n e.count left) ∙ none) (e.taken refl))
+      (behind input output head n old mid (λ left. pictures_of most_pictures head left ≡ (e.pictures, Ended)) (λ left. IsFilm left head e.pictures Ended) b (λ left h all. film_whole head n e.pictures Ended left h all) e.told);
 }
   where
     both : (P Q : List ℕ → Type 0) (o : Option (List ℕ)) → IfSome o P → IfSome o Q → IfSome o (λ left. P left × Q left)
@@ -85,17 +85,17 @@ stored input output head n old mid last new b e is = record {
 pub cut : (input output : List ℕ) (head : FilmHead) (n : ℕ) (fault : InputFault) (old mid new : Seen) → Begun input output head n old mid → PicturesEnd head (Faulty fault) mid new → NoFilm input output fault old new
 cut input output head n fault old mid new b e =
     cut_short (n + e.count) head e.pictures
-      (e.change ∙ ap (λ (s : Seen). wrote (Output Stream) (stored_stream head e.pictures) (took Input e.count s)) b.change ∙ further input output (stored_stream head e.pictures) n e.count old)
-      (behind input output head n old mid (λ left. pictures_of most_pictures head left ≡ (e.pictures, Faulty fault)) (λ left. IsFilm left head e.pictures (Faulty fault)) b (λ left h all. film_whole head n e.pictures (Faulty fault) left h all) e.told)
+    (e.change ∙ ap (λ (s : Seen). wrote (Output Stream) (stored_stream head e.pictures) (took Input e.count s)) b.change ∙ further input output (stored_stream head e.pictures) n e.count old)
+    (behind input output head n old mid (λ left. pictures_of most_pictures head left ≡ (e.pictures, Faulty fault)) (λ left. IsFilm left head e.pictures (Faulty fault)) b (λ left h all. film_whole head n e.pictures (Faulty fault) left h all) e.told)
 
 pub unread : (input output : List ℕ) (head : FilmHead) (n : ℕ) (old mid new : Seen) → Begun input output head n old mid → PictureUnread head mid new → ReadFault input output old new
 unread input output head n old mid new b u =
     in_pictures (n + u.count) head u.pictures u.between
-      (record {
-        now = u.stored.change ∙ ap (λ (s : Seen). wrote (Output Stream) (stored_stream head u.pictures) (took Input u.count s)) b.change ∙ further input output (stored_stream head u.pictures) n u.count old;
-        told = behind input output head n old mid (FirstPictures head u.pictures) (λ left. FilmBegins left head u.pictures) b (λ left h first. film_begins head n u.pictures left h first) u.stored.told;
-      })
-      u.failed
+    (record {
+      now = u.stored.change ∙ ap (λ (s : Seen). wrote (Output Stream) (stored_stream head u.pictures) (took Input u.count s)) b.change ∙ further input output (stored_stream head u.pictures) n u.count old;
+      told = behind input output head n old mid (FirstPictures head u.pictures) (λ left. FilmBegins left head u.pictures) b (λ left h first. film_begins head n u.pictures left h first) u.stored.told;
+    })
+    u.failed
 
 pub unwritten : (input output : List ℕ) (head : FilmHead) (n : ℕ) (old mid new : Seen) → Begun input output head n old mid → PictureUnwritten head mid new → WriteFault input output old new
 unwritten input output head n old mid new b u = record {
@@ -104,7 +104,7 @@ unwritten input output head n old mid new b u = record {
   head = head;
   pictures = u.pictures;
   failed = subst (λ (s : Seen). LaterFailed (Output Stream) s new)
-    (ap (λ (s : Seen). wrote (Output Stream) (take u.size (stored_stream head u.pictures)) (took Input u.count s)) b.change ∙ further input output (take u.size (stored_stream head u.pictures)) n u.count old) u.failed;
+      (ap (λ (s : Seen). wrote (Output Stream) (take u.size (stored_stream head u.pictures)) (took Input u.count s)) b.change ∙ further input output (take u.size (stored_stream head u.pictures)) n u.count old) u.failed;
   told = behind input output head n old mid (FirstPictures head u.pictures) (λ left. FilmBegins left head u.pictures) b (λ left h first. film_begins head n u.pictures left h first) u.told;
 }
 
@@ -121,10 +121,10 @@ unclosed input output head n old mid last new b e failed =
       head = head;
       pictures = e.pictures;
       failed = subst (λ (s : Seen). LaterFailed (Output Stream) s new)
-        (e.change ∙ ap (λ (s : Seen). wrote (Output Stream) text (took Input e.count s)) b.change ∙ further input output text n e.count old
-         ∙ ap (λ t. storing input output (n + e.count) t old) (sym (take_all text))) failed;
+          (e.change ∙ ap (λ (s : Seen). wrote (Output Stream) text (took Input e.count s)) b.change ∙ further input output text n e.count old
+          ∙ ap (λ t. storing input output (n + e.count) t old) (sym (take_all text))) failed;
       told = behind input output head n old mid (λ left. pictures_of most_pictures head left ≡ (e.pictures, Ended)) (λ left. FilmBegins left head e.pictures) b
-        (λ left h all. film_begins head n e.pictures left h (first_all head e.pictures Ended (drop n left) all)) e.told;
+          (λ left h all. film_begins head n e.pictures left h (first_all head e.pictures Ended (drop n left) all)) e.told;
     }
   where
     take_all : (xs : List ℕ) → take (length xs) xs ≡ xs
@@ -142,6 +142,7 @@ no_head_there input output old first new is t =
   where
     none_is : (left : List ℕ) → read_head left ≡ None → film_of left ≡ film_from None
     none_is left e = ap film_from e
+
     go : (o : Option (List ℕ)) → IfSome o (λ left. read_head left ≡ None) → IfSome o (λ left. ((film_of left).head ≡ None) × ((film_of left).end ≡ Faulty Form))
     go None e = tt
     go (Some left) e = (ap (λ (x : Film). x.head) (none_is left e), ap (λ (x : Film). x.end) (none_is left e))

@@ -74,12 +74,12 @@ remains_more head number n m pictures planes left below r next =
     let rest = drop m (drop n left) in
     let fewer = most_pictures - (number + 1) in
     let step : pictures_of (most_pictures - number) head (drop n left) ≡ (planes ∷ (pictures_of fewer head rest).0, (pictures_of fewer head rest).1)
-      = pictures_next (most_pictures - number) fewer head (drop n left) planes rest next (one_less most_pictures number below) in
+    = pictures_next (most_pictures - number) fewer head (drop n left) planes rest next (one_less most_pictures number below) in
     let here : drop m (drop n left) ≡ drop (n + m) left = drop_more n m left in
     record {
       all = append_assoc pictures (planes ∷ []) (pictures_of fewer head (drop (n + m) left)).0
-        ∙ ap (λ b. pictures ++ (planes ∷ (pictures_of fewer head b).0)) (sym here)
-        ∙ ap (λ (p : List Planes × FilmEnd). pictures ++ p.0) (sym step) ∙ r.all;
+          ∙ ap (λ b. pictures ++ (planes ∷ (pictures_of fewer head b).0)) (sym here)
+          ∙ ap (λ (p : List Planes × FilmEnd). pictures ++ p.0) (sym step) ∙ r.all;
       end = ap (λ b. (pictures_of fewer head b).1) (sym here) ∙ ap (λ (p : List Planes × FilmEnd). p.1) (sym step) ∙ r.end;
     }
   where
@@ -94,14 +94,15 @@ going_more head number m planes old mid read new below g was next did = record {
   pictures = g.pictures ++ planes ∷ [];
   size = length-append g.pictures (planes ∷ []) ∙ ap (λ n. n + 1) g.size;
   change = did
-    ∙ ap (wrote (Output Stream) (stored_picture head number planes)) (was ∙ ap (took Input m) g.change ∙ took_wrote g.count m (stored_stream head g.pictures) old)
-    ∙ wrote_more (Output Stream) (stored_stream head g.pictures) (stored_picture head number planes) (took Input (g.count + m) old)
-    ∙ ap (λ text. wrote (Output Stream) text (took Input (g.count + m) old)) (sym (stored_pictures-push head 0 number g.pictures planes (zero_before (length g.pictures) ∙ g.size)));
+      ∙ ap (wrote (Output Stream) (stored_picture head number planes)) (was ∙ ap (took Input m) g.change ∙ took_wrote g.count m (stored_stream head g.pictures) old)
+      ∙ wrote_more (Output Stream) (stored_stream head g.pictures) (stored_picture head number planes) (took Input (g.count + m) old)
+      ∙ ap (λ text. wrote (Output Stream) text (took Input (g.count + m) old)) (sym (stored_pictures-push head 0 number g.pictures planes (zero_before (length g.pictures) ∙ g.size)));
   told = go old.input.bytes g.told (along old mid g.count (stored_stream head g.pictures) (λ left. frame_step (most_pictures - number) head left ≡ Next planes (drop m left)) g.change next);
 }
   where
     zero_before : (n : ℕ) → 0 + n ≡ n
     zero_before n = omega arith
+
     go : (o : Option (List ℕ)) → IfSome o (Remains head number g.count g.pictures) → IfSome (option_map (drop g.count) o) (λ left. frame_step (most_pictures - number) head left ≡ Next planes (drop m left))
         → IfSome o (Remains head (number + 1) (g.count + m) (g.pictures ++ planes ∷ []))
     go None r s = tt
@@ -111,8 +112,8 @@ ends_so : (head : FilmHead) (number n : ℕ) (pictures : List Planes) (end : Fil
     → pictures_of (most_pictures - number) head (drop n left) ≡ ([], end) → pictures_of most_pictures head left ≡ (pictures, end)
 ends_so head number n pictures end left r e =
     pair (pictures_of most_pictures head left)
-      (sym r.all ∙ ap (λ (p : List Planes × FilmEnd). pictures ++ p.0) e ∙ append-nil pictures)
-      (sym r.end ∙ ap (λ (p : List Planes × FilmEnd). p.1) e)
+    (sym r.all ∙ ap (λ (p : List Planes × FilmEnd). pictures ++ p.0) e ∙ append-nil pictures)
+    (sym r.end ∙ ap (λ (p : List Planes × FilmEnd). p.1) e)
   where
     pair : (p : List Planes × FilmEnd) → p.0 ≡ pictures → p.1 ≡ end → p ≡ (pictures, end)
     pair p a b = ap (λ x. (x, p.1)) a ∙ ap (λ y. (pictures, y)) b
@@ -133,11 +134,13 @@ going_end head number old mid new g t = record {
   where
     none : IfSome (option_map (drop g.count) old.input.bytes) (λ left. left ≡ [])
     none = along old mid g.count (stored_stream head g.pictures) (λ left. left ≡ []) g.change t.content
+
     go : (o : Option (List ℕ)) → IfSome o (Remains head number g.count g.pictures) → IfSome (option_map (drop g.count) o) (λ left. left ≡ [])
         → IfSome o (λ left. pictures_of most_pictures head left ≡ (g.pictures, Ended))
     go None r s = tt
     go (Some left) r s = ends_so head number g.count g.pictures Ended left r
         (pictures_over (most_pictures - number) head (drop g.count left) (ap (frame_step (most_pictures - number) head) s ∙ step_over (most_pictures - number) head))
+
     empty : (o : Option (List ℕ)) → IfSome (option_map (drop g.count) o) (λ left. left ≡ []) → IfSome o (λ left. drop g.count left ≡ [])
     empty None s = tt
     empty (Some left) s = s
@@ -185,10 +188,10 @@ going_unwritten head number m e planes unit old mid read new below g was next is
     let text = stored_stream head g.pictures in
     let after = going_more head number m planes old mid read (wrote (Output Stream) (stored_picture head number planes) read) below g was next refl in
     let reached : wrote (Output Stream) (take e unit) read ≡ wrote (Output Stream) (text ++ take e unit) (took Input (g.count + m) old)
-      = ap (wrote (Output Stream) (take e unit)) (was ∙ ap (took Input m) g.change ∙ took_wrote g.count m text old) ∙ wrote_more (Output Stream) text (take e unit) (took Input (g.count + m) old) in
+    = ap (wrote (Output Stream) (take e unit)) (was ∙ ap (took Input m) g.change ∙ took_wrote g.count m text old) ∙ wrote_more (Output Stream) text (take e unit) (took Input (g.count + m) old) in
     let front : text ++ take e unit ≡ take (length text + e) (stored_stream head (g.pictures ++ planes ∷ []))
-      = front_of e text unit (stored_stream head (g.pictures ++ planes ∷ [])) short
-        (stored_pictures-push head 0 number g.pictures planes (zero_before (length g.pictures) ∙ g.size) ∙ ap (λ u. text ++ u) (sym is)) in
+    = front_of e text unit (stored_stream head (g.pictures ++ planes ∷ [])) short
+    (stored_pictures-push head 0 number g.pictures planes (zero_before (length g.pictures) ∙ g.size) ∙ ap (λ u. text ++ u) (sym is)) in
     record {
       count = g.count + m;
       size = length text + e;

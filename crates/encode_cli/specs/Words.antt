@@ -9,7 +9,7 @@ abbrev pub Word : Type 0
 Word = List ℕ
 
 pub data Meaning : Type 0 where
-  Store : Word → Word → Meaning      -- the input's name, the output's name
+  Store : Word → Word → Meaning  -- the input's name, the output's name
   Refused : WordFault → Meaning
 
 abbrev pub same_word : Word → Word → Bool

@@ -9,13 +9,13 @@ pub returns-in-Err-ReadFault : goal.returns-in-Err-ReadFault
 returns-in-Err-ReadFault g c =
     let seen = g.S.Studio.seen in
     head_unread c.args.input.now c.args.output.now (seen c.args.studio.now) (seen c.open_in.new.self) (seen c.read_head.new.studio) c.in-Ok.ensures
-      (c.in-Err-ReadFault.ensures.read (ap (λ e. Err e) c.in-Err-ReadFault.field-0-is))
+    (c.in-Err-ReadFault.ensures.read (ap (λ e. Err e) c.in-Err-ReadFault.field-0-is))
 
 pub returns-in-Err-Form : goal.returns-in-Err-Form
 returns-in-Err-Form g c =
     let seen = g.S.Studio.seen in
     no_head_there c.args.input.now c.args.output.now (seen c.args.studio.now) (seen c.open_in.new.self) (seen c.read_head.new.studio) c.in-Ok.ensures
-      (c.in-Err-Form.ensures.form (ap (λ e. Err e) c.in-Err-Form.field-0-is))
+    (c.in-Err-Form.ensures.form (ap (λ e. Err e) c.in-Err-Form.field-0-is))
 
 pub returns-in-Err-Read : goal.returns-in-Err-Read
 returns-in-Err-Read g c =

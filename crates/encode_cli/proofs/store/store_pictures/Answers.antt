@@ -30,8 +30,8 @@ loop-number-preserved g c =
     let is = units_are unit c.bytes.result.now c.write_access_unit.new.units.text (ap (λ (b : BitText). b.text) c.write_access_unit.ensures.text) (stored_picture-are_bytes c.args.head.now number planes) c.bytes.ensures.bytes in
     record {
       going = going_more c.args.head.now number t.0 planes (seen c.args.studio.now) (seen c.loop-number.studio) (seen c.next_picture.new.studio) (seen c.write_full.new.studio)
-        c.loop-number-test.true c.loop-number.invariant.going t.1.change next
-        (c.in-Ok.ensures.ok ∙ ap (λ bytes. wrote (Output Stream) bytes (seen c.next_picture.new.studio)) is);
+          c.loop-number-test.true c.loop-number.invariant.going t.1.change next
+          (c.in-Ok.ensures.ok ∙ ap (λ bytes. wrote (Output Stream) bytes (seen c.next_picture.new.studio)) is);
       sizes = fits_still c.args.head.now c.loop-number.picture c.next_picture.new.picture c.next_picture.ensures.shapes c.loop-number.invariant.sizes;
       payload = subst (λ n. 8 * payload_most c.args.head.now ≤ n) (sym c.write_access_unit.ensures.payload) c.loop-number.invariant.payload;
       units = subst (λ n. 8 * units_most c.args.head.now ≤ n) (sym (ap (λ (b : BitText). b.room) c.write_access_unit.ensures.text)) c.loop-number.invariant.units;
@@ -48,19 +48,19 @@ pub returns-in-Ok-false : goal.returns-in-Ok-false
 returns-in-Ok-false g c =
     let seen = g.S.Studio.seen in
     going_end c.args.head.now c.loop-number.number (seen c.args.studio.now) (seen c.loop-number.studio) (seen c.next_picture.new.studio) c.loop-number.invariant.going
-      (c.in-Ok-false.ensures.end (ap (λ b. Ok b) c.in-Ok-false.field-0-test))
+    (c.in-Ok-false.ensures.end (ap (λ b. Ok b) c.in-Ok-false.field-0-test))
 
 pub returns-in-Err-ReadFault : goal.returns-in-Err-ReadFault
 returns-in-Err-ReadFault g c =
     let seen = g.S.Studio.seen in
     going_unread c.args.head.now c.loop-number.number (seen c.args.studio.now) (seen c.loop-number.studio) (seen c.next_picture.new.studio) c.loop-number.invariant.going
-      (c.in-Err-ReadFault.ensures.read (ap (λ e. Err e) c.in-Err-ReadFault.field-0-is))
+    (c.in-Err-ReadFault.ensures.read (ap (λ e. Err e) c.in-Err-ReadFault.field-0-is))
 
 pub returns-in-Err-Form : goal.returns-in-Err-Form
 returns-in-Err-Form g c =
     let seen = g.S.Studio.seen in
     going_broken c.args.head.now c.loop-number.number (seen c.args.studio.now) (seen c.loop-number.studio) (seen c.next_picture.new.studio) c.loop-number.invariant.going
-      (c.in-Err-Form.ensures.form (ap (λ e. Err e) c.in-Err-Form.field-0-is))
+    (c.in-Err-Form.ensures.form (ap (λ e. Err e) c.in-Err-Form.field-0-is))
 
 pub returns-in-Err : goal.returns-in-Err
 returns-in-Err g c =
@@ -73,4 +73,4 @@ returns-in-Err g c =
     let is = units_are unit c.bytes.result.now c.write_access_unit.new.units.text (ap (λ (b : BitText). b.text) c.write_access_unit.ensures.text) (stored_picture-are_bytes c.args.head.now number planes) c.bytes.ensures.bytes in
     let short = c.in-Err.ensures.count in
     going_unwritten c.args.head.now number t.0 c.in-Err.field-0.0 planes c.bytes.result.now (seen c.args.studio.now) (seen c.loop-number.studio) (seen c.next_picture.new.studio) (seen c.write_full.new.studio)
-      c.loop-number-test.true c.loop-number.invariant.going t.1.change next is (omega arith) c.in-Err.ensures.err
+    c.loop-number-test.true c.loop-number.invariant.going t.1.change next is (omega arith) c.in-Err.ensures.err
