@@ -1,5 +1,5 @@
 -- What the calls of a run make together.
-use Rattle.std.proofs.Common.{ℕ, ◌+◌, ◌≤◌, ◌≡◌, ◌++◌, List, [], length, take, drop, Option, Some, None, refl, ap, sym, ◌∙◌, subst, arith, append-nil}
+use Rattle.std.proofs.Common.{ℕ, ◌+◌, ◌≤◌, ◌≡◌, List, [], length, take, drop, Option, Some, None, refl, ap, sym, ◌∙◌, subst, arith, append-nil}
 use Rattle.std.proofs.lemmas.Grind.{common_steps}
 use Rattle.std.specs.Prelude.{IfSome}
 use Rattle.std.specs.Option.{option_map}
@@ -12,10 +12,11 @@ use Rattle.enc_edge.proofs.Spots.{drop_more, took_more}
 use Rattle.spec_film.specs.declared.FilmHead.{FilmHead}
 use Rattle.spec_film.specs.declared.InputFault.{InputFault}
 use Rattle.spec_film.specs.declared.InputFault.TheVariants.{Form}
-use Rattle.spec_film.specs.Films.{Film, Planes, FilmEnd, Ended, Faulty, most_pictures, pictures_of, read_head, film_of, film_from}
+use Rattle.spec_film.specs.Films.{AllowedHead, Film, Planes, FilmEnd, Ended, Faulty, most_pictures, pictures_of, read_head, film_of, film_from}
 use Rattle.spec_stream.specs.Stored.{stored_stream}
-use Rattle.encode_cli.specs.Pictures.{FirstPictures, PicturesStored, PicturesEnd, PictureUnread, PictureUnwritten}
-use Rattle.encode_cli.specs.Runs.{reading, storing, FilmBegins, IsFilm, Stored, OpenFailed, StoredSoFar, ReadFault, in_head, in_pictures, WriteFault, NoFilm, no_head, cut_short}
+use Rattle.spec_stream.proofs.DecodeLaws.{stored_stream_decodes}
+use Rattle.encode_cli.specs.Pictures.{FirstPictures, PicturesEnd, PictureUnread, PictureUnwritten}
+use Rattle.encode_cli.specs.Runs.{reading, storing, FilmBegins, IsFilm, Stored, OpenFailed, ReadFault, in_head, in_pictures, WriteFault, NoFilm, no_head, cut_short}
 
 -- the head that the first n bytes are
 abbrev pub HeadIs : FilmHead → ℕ → List ℕ → Type 0
@@ -67,12 +68,13 @@ film_whole head n pictures end left is all =
       end_is = ap (λ (x : Film). x.end) f ∙ ap (λ (p : List Planes × FilmEnd). p.1) all;
     }
 
-pub stored : (input output : List ℕ) (head : FilmHead) (n : ℕ) (old mid last new : Seen) → Begun input output head n old mid → PicturesEnd head Ended mid last → new ≡ shut (Output Stream) last → Stored input output old new
-stored input output head n old mid last new b e is = record {
+pub stored : (input output : List ℕ) (head : FilmHead) (n : ℕ) (old mid last new : Seen) → AllowedHead head → Begun input output head n old mid → PicturesEnd head Ended mid last → new ≡ shut (Output Stream) last → Stored input output old new
+stored input output head n old mid last new allowed b e is = record {
   count = n + e.count;
   head = head;
   pictures = e.pictures;
   closed = is ∙ ap (shut (Output Stream)) (e.change ∙ ap (λ (s : Seen). wrote (Output Stream) (stored_stream head e.pictures) (took Input e.count s)) b.change ∙ further input output (stored_stream head e.pictures) n e.count old);
+  shows = stored_stream_decodes head e.pictures allowed e.are;
   whole = both (λ left. drop (n + e.count) left ≡ []) (λ left. IsFilm left head e.pictures Ended) old.input.bytes
       (behind input output head n old mid (λ left. drop e.count left ≡ []) (λ left. drop (n + e.count) left ≡ []) b (λ left h none. sym (drop_more n e.count left) ∙ none) (e.taken refl))
       (behind input output head n old mid (λ left. pictures_of most_pictures head left ≡ (e.pictures, Ended)) (λ left. IsFilm left head e.pictures Ended) b (λ left h all. film_whole head n e.pictures Ended left h all) e.told);

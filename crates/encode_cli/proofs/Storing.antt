@@ -8,7 +8,6 @@ use Rattle.spec_bits.proofs.Digits.{bytes_of_bits-bits_of_bytes, length-bits_of_
 use Rattle.bit_strings.specs.BitText.{BitText}
 use Rattle.std.specs.Option.{option_map}
 use Rattle.std.proofs.Math.Seq.{take-append-add}
-use Rattle.std.proofs.lemmas.List.{take-append-le}
 use Rattle.enc_edge.specs.declared.studio.Out.TheVariants.{Stream}
 use Rattle.enc_edge.specs.declared.studio.Place.TheVariants.{Input, Output}
 use Rattle.enc_edge.specs.Seen.{Seen}
@@ -20,11 +19,13 @@ use Rattle.spec_film.specs.declared.InputFault.TheVariants.{Form}
 use Rattle.spec_film.specs.Films.{Planes, FilmEnd, Ended, Faulty, Over, Next, Broken, most_pictures, frame_step, pictures_of}
 use Rattle.spec_film.proofs.FilmLaws.{pictures_over, pictures_broken, pictures_next, next_none}
 use Rattle.spec_stream.specs.Stored.{stored_picture, stored_pictures, stored_stream}
+use Rattle.std.proofs.lemmas.List.Elements.{All-nil, All-cons, All-append}
+use Rattle.spec_stream.specs.Pictures.{IsPicture}
 use Rattle.spec_stream.proofs.StoredLaws.{stored_pictures-push}
 use Rattle.picture_planes.specs.declared.picture.Picture.{Picture}
 use Rattle.picture_planes.specs.Pictures.{SameShapes}
 use Rattle.y4m_film.specs.Sizes.{FitsHead}
-use Rattle.encode_cli.specs.Pictures.{FirstPictures, PicturesStored, PicturesEnd, PictureUnread, PictureUnwritten, PicturesLeft, EndLeft}
+use Rattle.encode_cli.specs.Pictures.{FirstPictures, PicturesEnd, PictureUnread, PictureUnwritten, PicturesLeft, EndLeft}
 
 -- the pictures so far, and those that the bytes behind them have, are all pictures, and both end alike
 pub record Remains (head : FilmHead) (number n : ℕ) (pictures : List Planes) (left : List ℕ) : Type 0 where
@@ -36,6 +37,7 @@ pub record Going (head : FilmHead) (number : ℕ) (old new : Seen) : Type 0 wher
   pub count : ℕ
   pub pictures : List Planes
   pub size : length pictures ≡ number
+  pub are : All (IsPicture head) pictures
   pub change : new ≡ wrote (Output Stream) (stored_stream head pictures) (took Input count old)
   pub told : IfSome old.input.bytes (Remains head number count pictures)
 
@@ -48,6 +50,7 @@ going_none head old = record {
   count = 0;
   pictures = [];
   size = refl;
+  are = All-nil (IsPicture head);
   change = sym (ap (λ text. wrote (Output Stream) text (took Input 0 old)) (stored_none head) ∙ wrote_none (Output Stream) (took Input 0 old) ∙ took_none old);
   told = start old.input.bytes;
 }
@@ -88,11 +91,12 @@ remains_more head number n m pictures planes left below r next =
 
 pub going_more : (head : FilmHead) (number m : ℕ) (planes : Planes) (old mid read new : Seen) → number < most_pictures → Going head number old mid
     → read ≡ took Input m mid → IfSome mid.input.bytes (λ left. frame_step (most_pictures - number) head left ≡ Next planes (drop m left))
-    → new ≡ wrote (Output Stream) (stored_picture head number planes) read → Going head (number + 1) old new
-going_more head number m planes old mid read new below g was next did = record {
+    → new ≡ wrote (Output Stream) (stored_picture head number planes) read → IsPicture head planes → Going head (number + 1) old new
+going_more head number m planes old mid read new below g was next did is_picture = record {
   count = g.count + m;
   pictures = g.pictures ++ planes ∷ [];
   size = length-append g.pictures (planes ∷ []) ∙ ap (λ n. n + 1) g.size;
+  are = All-append (IsPicture head) g.pictures (planes ∷ []) g.are (All-cons (IsPicture head) planes [] is_picture (All-nil (IsPicture head)));
   change = did
       ∙ ap (wrote (Output Stream) (stored_picture head number planes)) (was ∙ ap (took Input m) g.change ∙ took_wrote g.count m (stored_stream head g.pictures) old)
       ∙ wrote_more (Output Stream) (stored_stream head g.pictures) (stored_picture head number planes) (took Input (g.count + m) old)
@@ -128,6 +132,7 @@ going_end head number old mid new g t = record {
   count = g.count;
   pictures = g.pictures;
   change = t.change ∙ took_none mid ∙ g.change;
+  are = g.are;
   told = go old.input.bytes g.told none;
   taken = λ _. empty old.input.bytes none;
 }
@@ -153,6 +158,7 @@ going_broken head number old mid new g t =
       count = g.count + m;
       pictures = g.pictures;
       change = t.1.change ∙ ap (took Input m) g.change ∙ took_wrote g.count m (stored_stream head g.pictures) old;
+      are = g.are;
       told = go old.input.bytes g.told (along old mid g.count (stored_stream head g.pictures) (λ left. frame_step (most_pictures - number) head left ≡ Broken Form) g.change t.1.content);
       taken = λ e. absurd (cc);
     }
@@ -182,11 +188,11 @@ front_of e text unit all h is =
 
 pub going_unwritten : (head : FilmHead) (number m e : ℕ) (planes : Planes) (unit : List ℕ) (old mid read new : Seen) → number < most_pictures → Going head number old mid
     → read ≡ took Input m mid → IfSome mid.input.bytes (λ left. frame_step (most_pictures - number) head left ≡ Next planes (drop m left))
-    → unit ≡ stored_picture head number planes → e ≤ length unit → LaterFailed (Output Stream) (wrote (Output Stream) (take e unit) read) new → PictureUnwritten head old new
+    → unit ≡ stored_picture head number planes → e ≤ length unit → LaterFailed (Output Stream) (wrote (Output Stream) (take e unit) read) new → IsPicture head planes → PictureUnwritten head old new
 unfolding going_more
-going_unwritten head number m e planes unit old mid read new below g was next is short failed =
+going_unwritten head number m e planes unit old mid read new below g was next is short failed is_picture =
     let text = stored_stream head g.pictures in
-    let after = going_more head number m planes old mid read (wrote (Output Stream) (stored_picture head number planes) read) below g was next refl in
+    let after = going_more head number m planes old mid read (wrote (Output Stream) (stored_picture head number planes) read) below g was next refl is_picture in
     let reached : wrote (Output Stream) (take e unit) read ≡ wrote (Output Stream) (text ++ take e unit) (took Input (g.count + m) old)
     = ap (wrote (Output Stream) (take e unit)) (was ∙ ap (took Input m) g.change ∙ took_wrote g.count m text old) ∙ wrote_more (Output Stream) text (take e unit) (took Input (g.count + m) old) in
     let front : text ++ take e unit ≡ take (length text + e) (stored_stream head (g.pictures ++ planes ∷ []))

@@ -1,5 +1,5 @@
 -- What the loop that stores the pictures does to the outside, from behind the film's head on.
-use Rattle.std.specs.Prelude.{ℕ, ◌≡◌, ◌++◌, List, [], take, drop, Some, IfSome, Result, Ok, Err}
+use Rattle.std.specs.Prelude.{ℕ, ◌≡◌, ◌++◌, List, [], take, drop, IfSome, Result, Ok, Err}
 use Rattle.enc_edge.specs.declared.studio.Out.TheVariants.{Stream}
 use Rattle.enc_edge.specs.declared.studio.Place.TheVariants.{Input, Output}
 use Rattle.enc_edge.specs.Seen.{Seen}
@@ -8,6 +8,8 @@ use Rattle.enc_edge.specs.Reads.{Took, TookSome, ReadFailed}
 use Rattle.spec_film.specs.declared.FilmHead.{FilmHead}
 use Rattle.spec_film.specs.declared.InputFault.TheVariants.{Form}
 use Rattle.spec_film.specs.Films.{Planes, FilmEnd, Ended, Faulty, Broken, most_pictures, frame_step, pictures_of}
+use Rattle.std.specs.List.{All}
+use Rattle.spec_stream.specs.Pictures.{IsPicture}
 use Rattle.spec_stream.specs.Stored.{stored_stream}
 use Rattle.encode_cli.specs.declared.store.StoreEnd.{StoreEnd}
 use Rattle.encode_cli.specs.declared.store.StoreEnd.TheVariants.{Read, Write, NoPicture}
@@ -27,6 +29,7 @@ pub record PicturesEnd (head : FilmHead) (end : FilmEnd) (old new : Seen) : Type
   pub count : ℕ
   pub pictures : List Planes
   pub change : new ≡ wrote (Output Stream) (stored_stream head pictures) (took Input count old)
+  pub are : All (IsPicture head) pictures
   pub told : IfSome old.input.bytes (λ left. pictures_of most_pictures head left ≡ (pictures, end))
   pub taken : end ≡ Ended → IfSome old.input.bytes (λ left. drop count left ≡ [])
 

@@ -1,6 +1,5 @@
 -- What a run of `store` does to the outside.
 use Rattle.std.specs.Prelude.{ℕ, ◌≡◌, ◌++◌, List, [], take, drop, Some, None, IfSome}
-use Rattle.enc_edge.specs.declared.studio.Out.{Out}
 use Rattle.enc_edge.specs.declared.studio.Out.TheVariants.{Stream, Recon, Report}
 use Rattle.enc_edge.specs.declared.studio.Place.{Place}
 use Rattle.enc_edge.specs.declared.studio.Place.TheVariants.{Input, Output}
@@ -8,7 +7,8 @@ use Rattle.enc_edge.specs.Seen.{Seen, spot_at}
 use Rattle.enc_edge.specs.Calls.{Rose, OpeningFailed, LaterFailed, opened, shut, wrote, took}
 use Rattle.spec_film.specs.declared.FilmHead.{FilmHead}
 use Rattle.spec_film.specs.declared.InputFault.{InputFault}
-use Rattle.spec_film.specs.Films.{Film, Planes, FilmEnd, Ended, Faulty, film_of}
+use Rattle.spec_film.specs.Films.{Planes, FilmEnd, Ended, Faulty, film_of}
+use Rattle.spec_stream.specs.Decode.{decode}
 use Rattle.spec_stream.specs.Stored.{stored_stream}
 
 -- the outside once the input stands open under its name and n of its bytes were taken
@@ -32,12 +32,14 @@ pub record IsFilm (left : List ℕ) (head : FilmHead) (pictures : List Planes) (
   pub end_is : (film_of left).end ≡ end
 
 -- the run is closed: each fault number is as before, the stream stands shut under its name, the input open under its name, all else is as before.
--- What was written is the stream that stores the pictures, and where the input's bytes are told, none is left of them, and they are the film of these pictures
+-- What was written is the stream that stores the pictures, and every decoder shows it as these pictures. Where the input's bytes are told, none is left of
+-- them, and they are the film of these pictures.
 pub record Stored (input output : List ℕ) (old new : Seen) : Type 0 where
   pub count : ℕ
   pub head : FilmHead
   pub pictures : List Planes
   pub closed : new ≡ shut (Output Stream) (storing input output count (stored_stream head pictures) old)
+  pub shows : decode (stored_stream head pictures) ≡ Some pictures
   pub whole : IfSome old.input.bytes (λ left. (drop count left ≡ []) × IsFilm left head pictures Ended)
 
 -- a place couldn't be opened: nothing was written, and where it is the input, nothing was read. `store` opens no other output than the stream

@@ -4,6 +4,8 @@
 mod outcome;
 mod run;
 mod store;
+#[cfg(test)]
+mod tests;
 mod words;
 
 use enc_edge::{OpenGate, RealStudio};

@@ -3,7 +3,13 @@ use Rattle.std.proofs.Common.{ℕ, zero, suc, ◌+◌, ◌-◌, ◌*◌, ◌/◌
 use Rattle.std.proofs.Math.Nat.{eq-or-lt_of_le, mul_comm, div-lt_iff_lt-mul, mod-lt, mod-eq_of_lt, div-add-mod, mul-add-mod_self_right, mul-le-mul_left, mul-le-mul_right}
 use Rattle.std.proofs.lemmas.Nat.{mul-add-lt, div-mul-add}
 use Rattle.std.specs.List.{flat_map, range_with_len}
-use Rattle.std.proofs.lemmas.List.FromFn.{fill_by_all, get_or-map-range_with_len}
+use Rattle.std.specs.Prelude.{Bool, true, false, nat_lt, map}
+use Rattle.std.specs.List.{All}
+use Rattle.std.proofs.lemmas.List.Elements.{All-from_get_or, All-get_or}
+use Rattle.std.proofs.lemmas.Bool.{ltb-true, ltb-false}
+use Rattle.std.proofs.Math.ListN.{get_or-eq_default}
+use Rattle.spec_bits.specs.Bits.{IsByte}
+use Rattle.std.proofs.lemmas.List.FromFn.{length-map-range_with_len, fill_by_all, get_or-map-range_with_len}
 use Rattle.std.proofs.lemmas.Grind.{common_steps}
 use Rattle.spec_film.specs.Films.{Planes}
 use Rattle.spec_stream.specs.Stored.{block_at, macroblock_samples, macroblocks_of}
@@ -300,3 +306,43 @@ cropped_all width rows samples long = go rows 0 samples (zero-start samples) lon
 
         whole : (xs : List ℕ) → take width xs ++ drop width xs ≡ xs
         whole xs = grind (arith, common_steps)
+
+byte_at : (xs : List ℕ) (i : ℕ) → All IsByte xs → get_or xs i 0 < 256
+byte_at xs i small = go (nat_lt i (length xs)) refl
+  where
+    go : (b : Bool) → nat_lt i (length xs) ≡ b → get_or xs i 0 < 256
+    go true is = All-get_or IsByte xs i 0 (ltb-true i (length xs) is) small
+    go false is = subst (λ n. n < 256) (sym (get_or-eq_default xs 0 (ltb-false i (length xs) is))) (lit< tt)
+
+-- a plane of macroblocks of bytes is bytes
+plane_bytes : (across down size first : ℕ) (ms : List (List ℕ)) → 0 < size → 0 < across → ((k : ℕ) → k < across * down → All IsByte (get_or ms k [])) → All IsByte (plane_from across down size first ms)
+unfolding plane_from
+plane_bytes across down size first ms some wide each =
+    All-from_get_or IsByte (map (sample_at across size first ms) (range_with_len 0 count)) 0 (λ i below. at_place i (subst (λ n. i < n) (length-map-range_with_len (sample_at across size first ms) 0 count) below))
+  where
+    count : ℕ
+    count = size * across * (size * down)
+
+    at_place : (i : ℕ) → i < count → get_or (map (sample_at across size first ms) (range_with_len 0 count)) i 0 < 256
+    at_place i below =
+        let x = i % (size * across) in
+        let y = i / (size * across) in
+        let inside = in_block size across down i some wide below in
+        subst (λ n. n < 256) (sym (get_or-map-range_with_len (sample_at across size first ms) 0 count i i 0 below (zero-add i)))
+        (byte_at (get_or ms (y / size * across + x / size) []) (first + (y % size * size + x % size)) (each (y / size * across + x / size) (mul-add-lt (y / size) across (x / size) down inside.row inside.column)))
+
+-- a picture whose macroblocks are bytes is bytes
+pub planes_bytes : (across down : ℕ) (p : Planes) → 0 < across → HasPlanes across down p → ((k : ℕ) → k < across * down → All IsByte (macroblock_samples across p k))
+    → All IsByte p.luma × All IsByte p.cb × All IsByte p.cr
+planes_bytes across down p wide sizes bytes =
+    let same = picture_is across down p wide sizes in (
+      subst (λ (q : Planes). All IsByte q.luma) same (plane_bytes across down 16 0 ms (lit< tt) wide each),
+      subst (λ (q : Planes). All IsByte q.cb) same (plane_bytes across down 8 256 ms (lit< tt) wide each),
+      subst (λ (q : Planes). All IsByte q.cr) same (plane_bytes across down 8 320 ms (lit< tt) wide each),
+    )
+  where
+    ms : List (List ℕ)
+    ms = macroblocks_of across down p
+
+    each : (k : ℕ) → k < across * down → All IsByte (get_or ms k [])
+    each k below = subst (All IsByte) (sym (get_or-macroblocks across down k p below)) (bytes k below)

@@ -114,6 +114,7 @@ steps (Some d) (nal ∷ nals) = steps (step d nal) nals
 abbrev pub all_shown : Decoder → Option (List Planes)
 all_shown d = if length d.begun == 0 then Some (d.out ++ pictures_in d.period) else None
 
--- the pictures that a decoder shows, in output order; bytes that aren't such a stream give nothing, and no bytes are no picture
+-- The pictures that a decoder shows, in output order. Bytes whose units, heads, slices or pictures can't be read so give nothing; no bytes are no picture.
+-- What one slice header must have in common with another (clause 7.4.3) isn't tested.
 unfoldable pub decode : List ℕ → Option (List Planes)
 decode bytes = option_and_then all_shown (option_and_then (steps (Some start)) (units_of bytes))

@@ -1,10 +1,12 @@
 -- Blocks, row by row, and macroblocks, block by block.
-use Rattle.std.proofs.Common.{ℕ, ◌≡◌, ◌+◌, ◌-◌, ◌*◌, ◌/◌, ◌%◌, ◌≤◌, ◌<◌, List, [], ◌++◌, length, take, drop, Bool, refl, ap, sym, ◌∙◌, subst, arith, append_assoc, append-nil, length-append, length-drop, suc, map, zero-add}
+use Rattle.std.proofs.Common.{ℕ, ◌≡◌, ◌+◌, ◌-◌, ◌*◌, ◌/◌, ◌%◌, ◌≤◌, ◌<◌, List, [], ◌++◌, length, take, drop, Bool, refl, ap, sym, ◌∙◌, subst, arith, append_assoc, append-nil, length-append, suc, map, zero-add, inl, inr, ◌⊎◌}
 use Rattle.std.specs.List.{range_with_len}
 use Rattle.std.proofs.lemmas.List.FromFn.{map-range_with_len_more}
 use Rattle.std.proofs.lemmas.Grind.{common_steps}
-use Rattle.std.proofs.Math.Nat.{mul-le-mul_right, mul-le-mul_left, mod-lt}
-use Rattle.spec_bits.specs.Bits.{bits_of_bytes, digits}
+use Rattle.std.proofs.Math.Nat.{mul-le-mul_right, mul-le-mul_left, mod-lt, eq-or-lt_of_le}
+use Rattle.std.specs.List.{All}
+use Rattle.std.proofs.lemmas.List.Elements.{All-nil, All-append}
+use Rattle.spec_bits.specs.Bits.{IsByte, bits_of_bytes, digits}
 use Rattle.spec_bits.specs.Heads.{slice_head_bits}
 use Rattle.spec_bits.proofs.Digits.{bits_of_bytes-append, bits_of_bytes-none, length-bits_of_bytes}
 use Rattle.spec_bits.specs.Golomb.{ue_bits, align_bits, to_byte}
@@ -139,3 +141,40 @@ unfolding stored_slice_bits
 slice_text across down number p a b c d hb hc hd =
     more_both b c d (pcm_slice_bits (length b.text) (macroblocks_of across down p)) (digits 8 128) hc hd
     ∙ ap (λ (x : BitText). with_more x (pcm_slice_bits (length x.text) (macroblocks_of across down p) ++ digits 8 128)) hb
+
+-- the samples of blocks and macroblocks are bytes
+pub no_block_bytes : (width size x y : ℕ) (samples : List ℕ) → All IsByte (block_at width size 0 x y samples)
+no_block_bytes width size x y samples = subst (All IsByte) (sym (block_at-none width size x y samples)) (All-nil IsByte)
+
+pub more_block_bytes : (p : Plane) (size row x y : ℕ) (part : List ℕ) → y + row < p.height → x + size ≤ p.width → part ≡ take size (drop x (row_of p (y + row))) → All IsByte part
+    → All IsByte (block_at p.width size row x y (samples_of p)) → All IsByte (block_at p.width size (row + 1) x y (samples_of p))
+more_block_bytes p size row x y part below inside is small before =
+    subst (All IsByte) (sym (block_at-more p.width size row x y (samples_of p)))
+    (All-append IsByte (block_at p.width size row x y (samples_of p)) (take size (drop ((y + row) * p.width + x) (samples_of p))) before
+    (subst (All IsByte) (is ∙ part_of_samples p (y + row) x size below inside) small))
+
+pub block_bytes_all : (width size row x y : ℕ) (samples : List ℕ) → row ≡ size → All IsByte (block_at width size row x y samples) → All IsByte (block_at width size size x y samples)
+block_bytes_all width size row x y samples is h = subst (λ n. All IsByte (block_at width size n x y samples)) is h
+
+pub macroblock_bytes : (across k : ℕ) (p : Planes) (wy wu wv : ℕ) → wy ≡ 16 * across → wu ≡ 8 * across → wv ≡ 8 * across
+    → All IsByte (block_at wy 16 16 (16 * (k % across)) (16 * (k / across)) p.luma) → All IsByte (block_at wu 8 8 (8 * (k % across)) (8 * (k / across)) p.cb)
+    → All IsByte (block_at wv 8 8 (8 * (k % across)) (8 * (k / across)) p.cr) → All IsByte (macroblock_samples across p k)
+unfolding macroblock_samples
+macroblock_bytes across k p wy wu wv ey eu ev hy hu hv =
+    let y = block_at (16 * across) 16 16 (16 * (k % across)) (16 * (k / across)) p.luma in
+    let u = block_at (8 * across) 8 8 (8 * (k % across)) (8 * (k / across)) p.cb in
+    let v = block_at (8 * across) 8 8 (8 * (k % across)) (8 * (k / across)) p.cr in
+    All-append IsByte y (u ++ v) (subst (λ n. All IsByte (block_at n 16 16 (16 * (k % across)) (16 * (k / across)) p.luma)) ey hy)
+    (All-append IsByte u v (subst (λ n. All IsByte (block_at n 8 8 (8 * (k % across)) (8 * (k / across)) p.cb)) eu hu)
+    (subst (λ n. All IsByte (block_at n 8 8 (8 * (k % across)) (8 * (k / across)) p.cr)) ev hv))
+
+pub macroblocks_bytes : (across : ℕ) (p : Planes) (n : ℕ) → ((k : ℕ) → k < n → All IsByte (macroblock_samples across p k)) → All IsByte (macroblock_samples across p n)
+    → (k : ℕ) → k < n + 1 → All IsByte (macroblock_samples across p k)
+macroblocks_bytes across p n before last k below = go (eq-or-lt_of_le (at_most k n below))
+  where
+    at_most : (k n : ℕ) → k < n + 1 → k ≤ n
+    at_most k n h = omega arith
+
+    go : (k ≡ n) ⊎ (k < n) → All IsByte (macroblock_samples across p k)
+    go (inl same) = subst (λ m. All IsByte (macroblock_samples across p m)) (sym same) last
+    go (inr less) = before k less

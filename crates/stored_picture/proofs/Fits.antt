@@ -1,5 +1,5 @@
 -- What is appended where the room is known.
-use Rattle.std.proofs.Common.{ℕ, ◌≡◌, ◌+◌, ◌%◌, ◌≤◌, ◌<◌, List, [], ◌++◌, length, replicate, Result, Ok, Err, Bool, false, ap, ◌∙◌, arith}
+use Rattle.std.proofs.Common.{ℕ, ◌≡◌, ◌+◌, ◌≤◌, List, [], ◌++◌, length, replicate, Result, Ok, Err, Bool, false, ap, ◌∙◌, arith}
 use Rattle.std.proofs.lemmas.Grind.{common_steps}
 use Rattle.spec_bits.specs.Golomb.{align_bits, to_byte}
 use Rattle.bit_strings.specs.BitText.{BitText, Appends}

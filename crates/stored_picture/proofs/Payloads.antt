@@ -1,5 +1,5 @@
 -- The payloads of parameter sets, and units one behind another.
-use Rattle.std.proofs.Common.{ℕ, ◌+◌, ◌*◌, ◌/◌, ◌%◌, ◌≡◌, ◌≤◌, ◌<◌, List, [], ◌∷◌, ◌++◌, length, Bool, true, false, Result, refl, ap, sym, ◌∙◌, subst, arith, length-append, append_assoc}
+use Rattle.std.proofs.Common.{ℕ, ◌+◌, ◌%◌, ◌≡◌, ◌≤◌, List, [], ◌++◌, length, Bool, true, false, Result, refl, ap, sym, ◌∙◌, subst, arith, length-append, append_assoc}
 use Rattle.spec_bits.specs.declared.heads.Field.{Field}
 use Rattle.spec_bits.specs.Bits.{digits, bits_of_bytes, bytes_of_bits}
 use Rattle.spec_bits.specs.Golomb.{trail_bits}
@@ -7,7 +7,7 @@ use Rattle.spec_bits.specs.Fields.{fields_bits}
 use Rattle.spec_bits.specs.Heads.{slice_head_bits, payload_of, sequence_fields, sequence_payload, picture_fields, picture_payload}
 use Rattle.spec_bits.specs.Units.{EndsWell}
 use Rattle.spec_bits.proofs.Codes.{length-trail_bits, trail_whole}
-use Rattle.spec_bits.proofs.Digits.{length-digits, length-bits_of_bytes, bits_of_bytes-append}
+use Rattle.spec_bits.proofs.Digits.{length-digits, bits_of_bytes-append}
 use Rattle.spec_film.specs.declared.FilmHead.{FilmHead}
 use Rattle.spec_film.specs.Films.{Planes}
 use Rattle.spec_stream.specs.Stored.{stored_picture, stored_sequence, stored_slice_bits, stored_slice_head, pcm_slice_bits, macroblocks_of, mbs_across, mbs_down}

@@ -4,6 +4,7 @@ ghost use Rattle.spec_bits.specs.Bits.{bits_of_bytes, bytes_of_bits};
 ghost use Rattle.spec_bits.specs.Heads.{sequence_payload, picture_payload};
 ghost use Rattle.spec_bits.specs.Units.{EndsWell, unit_bytes};
 ghost use Rattle.spec_film.specs.Films.{AllowedHead};
+ghost use Rattle.spec_stream.specs.Pictures.{IsPicture};
 ghost use Rattle.spec_stream.specs.Stored.{stored_picture, stored_sequence, stored_slice_bits, mbs_across, mbs_down};
 ghost use Rattle.picture_planes.specs.Pictures.{planes_of};
 ghost use Rattle.stored_picture.specs.Rooms.{payload_most, units_most};
@@ -110,6 +111,7 @@ fn append_slice(
     requires room { length units.old.text + 8 * (5 + payload_most head.now + payload_most head.now / 2) ≤ units.old.room }
     ensures text { units.new ≡ record units.old { text = units.old.text ++ bits_of_bytes (unit_bytes false 3 5 (bytes_of_bits (stored_slice_bits (mbs_across head.now) (mbs_down head.now) number (planes_of picture.now)))) } }
     ensures payload { payload.new.room ≡ payload.old.room }
+    ensures picture { IsPicture head.now (planes_of picture.now) }
 {
     let across = (head.width + 15) / 16;
     let down = (head.height + 15) / 16;
@@ -134,6 +136,9 @@ pub fn write_access_unit(
     requires units { 8 * units_most head.now ≤ units.old.room }
     ensures text { units.new ≡ record units.old { text = bits_of_bytes (stored_picture head.now number (planes_of picture.now)) } }
     ensures payload { payload.new.room ≡ payload.old.room }
+
+    // Its planes have the film's sizes, and their samples are bytes.
+    ensures picture { IsPicture head.now (planes_of picture.now) }
 {
     units.clear();
     append_sequence(units, payload, head);

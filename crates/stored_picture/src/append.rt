@@ -1,6 +1,6 @@
 // Appending where the room is known.
-ghost use Rattle.std.specs.Prelude.{◌≡◌, ◌≤◌, ◌<◌, ◌+◌, ◌-◌, ◌*◌, ◌%◌, ◌^◌, ◌++◌, length};
-ghost use Rattle.spec_bits.specs.Bits.{bits_of_bytes, digits};
+ghost use Rattle.std.specs.Prelude.{◌≡◌, ◌≤◌, ◌<◌, ◌+◌, ◌-◌, ◌*◌, ◌%◌, ◌^◌, ◌++◌, length, All};
+ghost use Rattle.spec_bits.specs.Bits.{IsByte, bits_of_bytes, digits};
 ghost use Rattle.spec_bits.specs.Golomb.{align_bits, to_byte, ue_bits};
 
 use bit_strings::BitBuf;
@@ -32,7 +32,8 @@ pub fn append_zeros_to_byte(out: &mut BitBuf)
 pub fn append_bytes(out: &mut BitBuf, bytes: &[u8])
     requires whole { length out.old.text % 8 ≡ 0 }
     requires room { length out.old.text + 8 * length bytes.now ≤ out.old.room }
-    ensures { out.new ≡ record out.old { text = out.old.text ++ bits_of_bytes bytes.now } }
+    ensures text { out.new ≡ record out.old { text = out.old.text ++ bits_of_bytes bytes.now } }
+    ensures bytes { All IsByte bytes.now }
 {
     let _ = out.put_bytes(bytes);
 }

@@ -1,6 +1,6 @@
 // Blocks of samples, macroblock by macroblock.
-ghost use Rattle.std.specs.Prelude.{◌≡◌, ◌≤◌, ◌<◌, ◌+◌, ◌*◌, ◌/◌, ◌%◌, ◌++◌, length};
-ghost use Rattle.spec_bits.specs.Bits.{bits_of_bytes};
+ghost use Rattle.std.specs.Prelude.{◌≡◌, ◌≤◌, ◌<◌, ◌+◌, ◌*◌, ◌/◌, ◌%◌, ◌++◌, length, All};
+ghost use Rattle.spec_bits.specs.Bits.{IsByte, bits_of_bytes};
 ghost use Rattle.spec_stream.specs.Stored.{block_at, pcm_bits, macroblock_samples};
 ghost use Rattle.picture_planes.specs.Samples.{samples_of};
 ghost use Rattle.picture_planes.specs.Pictures.{planes_of};
@@ -22,6 +22,7 @@ fn append_block(out: &mut BitBuf, plane: &Plane, size: u32, x: u32, y: u32)
     requires room { length out.old.text + 8 * (size * size) ≤ out.old.room }
     ensures text { out.new ≡ record out.old { text = out.old.text ++ bits_of_bytes (block_at plane.now.width size size x y (samples_of plane.now)) } }
     ensures length { length out.new.text ≡ length out.old.text + 8 * (size * size) }
+    ensures bytes { All IsByte (block_at plane.now.width size size x y (samples_of plane.now)) }
 {
     let start = x as usize;
     let end = start + size as usize;
@@ -38,6 +39,7 @@ pub fn append_macroblock(out: &mut BitBuf, picture: &Picture, across: u32, k: u3
     ensures text { out.new ≡ record out.old { text = out.old.text ++ pcm_bits (length out.old.text) (macroblock_samples across (planes_of picture.now) k) } }
     ensures length { length out.new.text ≤ length out.old.text + 3088 }
     ensures whole { length out.new.text % 8 ≡ 0 }
+    ensures bytes { All IsByte (macroblock_samples across (planes_of picture.now) k) }
 {
     let column = k % across;
     let row = k / across;

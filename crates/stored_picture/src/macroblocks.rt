@@ -1,6 +1,7 @@
 // The macroblocks of a picture, one after another.
-ghost use Rattle.std.specs.Prelude.{◌≡◌, ◌≤◌, ◌<◌, ◌+◌, ◌*◌, ◌%◌, ◌++◌, length};
-ghost use Rattle.spec_stream.specs.Stored.{pcm_slice_bits, macroblocks_of};
+ghost use Rattle.std.specs.Prelude.{◌≡◌, ◌≤◌, ◌<◌, ◌+◌, ◌*◌, ◌%◌, ◌++◌, ℕ, length, All};
+ghost use Rattle.spec_stream.specs.Stored.{macroblock_samples, macroblocks_of, pcm_slice_bits};
+ghost use Rattle.spec_bits.specs.Bits.{IsByte};
 ghost use Rattle.picture_planes.specs.Pictures.{planes_of};
 ghost use Rattle.stored_picture.specs.Sizes.{InMacroblocks};
 
@@ -16,6 +17,7 @@ pub fn append_macroblocks(out: &mut BitBuf, picture: &Picture, across: u32, down
     ensures text { out.new ≡ record out.old { text = out.old.text ++ pcm_slice_bits (length out.old.text) (macroblocks_of across down (planes_of picture.now)) } }
     ensures length { length out.new.text ≤ length out.old.text + 3088 * (across * down) }
     ensures whole { 0 < across * down → length out.new.text % 8 ≡ 0 }
+    ensures bytes { (k : ℕ) → k < across * down → All IsByte (macroblock_samples across (planes_of picture.now) k) }
 {
     for k in 0..across * down {
         append_macroblock(out, picture, across, k);

@@ -1,7 +1,8 @@
 // The whole slice.
-ghost use Rattle.std.specs.Prelude.{◌≡◌, ◌≤◌, ◌<◌, ◌+◌, ◌*◌, ◌/◌, ◌%◌, ◌^◌, ◌++◌, [], length};
+ghost use Rattle.std.specs.Prelude.{◌≡◌, ◌≤◌, ◌<◌, ◌+◌, ◌*◌, ◌/◌, ◌%◌, ◌^◌, ◌++◌, [], ℕ, length, All};
+ghost use Rattle.spec_bits.specs.Bits.{IsByte};
 ghost use Rattle.spec_bits.specs.Heads.{slice_head_bits};
-ghost use Rattle.spec_stream.specs.Stored.{stored_slice_bits, stored_slice_head};
+ghost use Rattle.spec_stream.specs.Stored.{macroblock_samples, stored_slice_bits, stored_slice_head};
 ghost use Rattle.picture_planes.specs.Pictures.{planes_of};
 ghost use Rattle.stored_picture.specs.Sizes.{InMacroblocks};
 
@@ -47,6 +48,7 @@ pub fn write_pcm_slice(out: &mut BitBuf, picture: &Picture, across: u32, down: u
     ensures text { out.new ≡ record out.old { text = stored_slice_bits across down number (planes_of picture.now) } }
     ensures whole { length out.new.text % 8 ≡ 0 }
     ensures length { length out.new.text ≤ 4096 + 3088 * (across * down) }
+    ensures bytes { (k : ℕ) → k < across * down → All IsByte (macroblock_samples across (planes_of picture.now) k) }
 {
     append_head(out, number);
     append_macroblocks(out, picture, across, down);

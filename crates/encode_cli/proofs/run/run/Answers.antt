@@ -1,4 +1,4 @@
-use Rattle.std.proofs.Common.{ℕ, List, map}
+use Rattle.std.proofs.Common.{map}
 use Rattle.encode_cli.proofs.Deciding.{answers, asks_done, asks_input, asks_memory, asks_open, asks_read, asks_write, refused, words_refused}
 use Rattle.encode_cli.proofs.run.run.Goals as goal
 

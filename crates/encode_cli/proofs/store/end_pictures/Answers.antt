@@ -1,5 +1,4 @@
-use Rattle.std.proofs.Common.{ℕ, ◌≡◌, List, Option, Some, None, Ok, ap}
-use Rattle.enc_edge.specs.Reads.{Took}
+use Rattle.std.proofs.Common.{Ok, ap}
 use Rattle.picture_planes.specs.Pictures.{planes_of}
 use Rattle.encode_cli.proofs.Storing.{never_next}
 use Rattle.encode_cli.proofs.store.end_pictures.Goals as goal

@@ -1,5 +1,4 @@
-use Rattle.std.proofs.Common.{ℕ, ◌≡◌, refl, subst, ap, Result, Ok, Err}
-use Rattle.spec_film.specs.Films.{Ended, Faulty}
+use Rattle.std.proofs.Common.{refl, subst, ap, Err}
 use Rattle.spec_film.specs.declared.InputFault.TheVariants.{Form}
 use Rattle.encode_cli.specs.Pictures.{PicturesLeft}
 use Rattle.encode_cli.proofs.Running.{head_begun, stored, cut, unread, unwritten, unclosed, head_unread, no_head_there}
@@ -62,7 +61,7 @@ returns-in-Ok-close_out g c =
     let head = c.in-Ok-read_head.head in
     let t = c.in-Ok-read_head.ensures.ok in
     let b = head_begun input output head t.0 old (seen c.open_in.new.self) (seen c.read_head.new.studio) (seen c.open_out.new.self) c.in-Ok.ensures t.1 c.in-Ok-open_out.ensures in
-    stored input output head t.0 old (seen c.open_out.new.self) (seen c.store_pictures.new.studio) (seen c.close_out.new.self) b c.in-Ok-store_pictures.ensures c.in-Ok-close_out.ensures
+    stored input output head t.0 old (seen c.open_out.new.self) (seen c.store_pictures.new.studio) (seen c.close_out.new.self) c.in-Ok-read_head.ensures.allowed b c.in-Ok-store_pictures.ensures c.in-Ok-close_out.ensures
 
 pub returns : goal.returns
 returns g c =

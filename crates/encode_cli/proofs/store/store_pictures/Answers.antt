@@ -1,8 +1,7 @@
-use Rattle.std.proofs.Common.{ℕ, ◌≡◌, ◌≤◌, ◌<◌, ◌+◌, ◌-◌, ◌*◌, ◌∙◌, ap, sym, refl, subst, List, [], length, take, drop, Ok, Err, arith}
+use Rattle.std.proofs.Common.{◌≡◌, ◌≤◌, ◌-◌, ◌*◌, ◌∙◌, ap, sym, subst, length, drop, Ok, Err, arith}
 use Rattle.enc_edge.specs.declared.studio.Out.TheVariants.{Stream}
 use Rattle.enc_edge.specs.declared.studio.Place.TheVariants.{Output}
-use Rattle.enc_edge.specs.Seen.{Seen}
-use Rattle.enc_edge.specs.Calls.{wrote, LaterFailed}
+use Rattle.enc_edge.specs.Calls.{wrote}
 use Rattle.spec_film.specs.Films.{Next, most_pictures, frame_step}
 use Rattle.spec_stream.specs.Stored.{stored_picture}
 use Rattle.spec_stream.proofs.Ends.{stored_picture-are_bytes}
@@ -31,7 +30,7 @@ loop-number-preserved g c =
     record {
       going = going_more c.args.head.now number t.0 planes (seen c.args.studio.now) (seen c.loop-number.studio) (seen c.next_picture.new.studio) (seen c.write_full.new.studio)
           c.loop-number-test.true c.loop-number.invariant.going t.1.change next
-          (c.in-Ok.ensures.ok ∙ ap (λ bytes. wrote (Output Stream) bytes (seen c.next_picture.new.studio)) is);
+          (c.in-Ok.ensures.ok ∙ ap (λ bytes. wrote (Output Stream) bytes (seen c.next_picture.new.studio)) is) c.write_access_unit.ensures.picture;
       sizes = fits_still c.args.head.now c.loop-number.picture c.next_picture.new.picture c.next_picture.ensures.shapes c.loop-number.invariant.sizes;
       payload = subst (λ n. 8 * payload_most c.args.head.now ≤ n) (sym c.write_access_unit.ensures.payload) c.loop-number.invariant.payload;
       units = subst (λ n. 8 * units_most c.args.head.now ≤ n) (sym (ap (λ (b : BitText). b.room) c.write_access_unit.ensures.text)) c.loop-number.invariant.units;
@@ -73,4 +72,4 @@ returns-in-Err g c =
     let is = units_are unit c.bytes.result.now c.write_access_unit.new.units.text (ap (λ (b : BitText). b.text) c.write_access_unit.ensures.text) (stored_picture-are_bytes c.args.head.now number planes) c.bytes.ensures.bytes in
     let short = c.in-Err.ensures.count in
     going_unwritten c.args.head.now number t.0 c.in-Err.field-0.0 planes c.bytes.result.now (seen c.args.studio.now) (seen c.loop-number.studio) (seen c.next_picture.new.studio) (seen c.write_full.new.studio)
-    c.loop-number-test.true c.loop-number.invariant.going t.1.change next is (omega arith) c.in-Err.ensures.err
+    c.loop-number-test.true c.loop-number.invariant.going t.1.change next is (omega arith) c.in-Err.ensures.err c.write_access_unit.ensures.picture

@@ -1,12 +1,11 @@
-use Rattle.std.proofs.Common.{◌≡◌, ◌+◌, ◌*◌, ◌/◌, ◌%◌, ◌≤◌, ◌∙◌, ap, sym, subst, length, List, ℕ, true, false, arith}
+use Rattle.std.proofs.Common.{◌≤◌, ◌∙◌, ap, sym, subst, length, List, ℕ, true, false, arith}
 use Rattle.spec_bits.specs.Bits.{bits_of_bytes}
-use Rattle.spec_bits.specs.Heads.{sequence_fields, picture_fields}
+use Rattle.spec_bits.specs.Heads.{picture_fields}
 use Rattle.spec_bits.specs.Units.{unit_bytes}
-use Rattle.spec_stream.specs.Stored.{stored_sequence}
 use Rattle.bit_strings.specs.BitText.{BitText}
 use Rattle.stored_picture.proofs.BlockText.{with_more}
-use Rattle.stored_picture.proofs.Lengths.{length-sequence_fields, length-sequence_payload, length-picture_fields, length-picture_payload}
-use Rattle.stored_picture.proofs.Payloads.{head_made, payload_is, payload_ends, sequence_is, picture_is}
+use Rattle.stored_picture.proofs.Lengths.{length-picture_fields, length-picture_payload}
+use Rattle.stored_picture.proofs.Payloads.{head_made, payload_is, payload_ends, picture_is}
 use Rattle.stored_picture.proofs.access_unit.append_picture_set.Goals as goal
 
 pub bytes-requires : goal.bytes-requires

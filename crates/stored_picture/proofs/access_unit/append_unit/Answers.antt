@@ -1,4 +1,4 @@
-use Rattle.std.proofs.Common.{◌≡◌, ◌+◌, ◌*◌, ◌/◌, ◌%◌, ◌≤◌, ◌∙◌, ap, length, arith, length-append}
+use Rattle.std.proofs.Common.{◌∙◌, ap, length, arith, length-append}
 use Rattle.spec_bits.specs.Bits.{bits_of_bytes}
 use Rattle.spec_bits.specs.Units.{unit_bytes}
 use Rattle.spec_bits.proofs.Digits.{length-bits_of_bytes}

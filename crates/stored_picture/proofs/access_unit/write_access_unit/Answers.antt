@@ -1,4 +1,4 @@
-use Rattle.std.proofs.Common.{◌≡◌, ◌∙◌, ap}
+use Rattle.std.proofs.Common.{◌∙◌, ap}
 use Rattle.spec_bits.specs.Bits.{bits_of_bytes}
 use Rattle.spec_stream.specs.Stored.{stored_picture}
 use Rattle.picture_planes.specs.Pictures.{planes_of}

@@ -1,7 +1,5 @@
-use Rattle.std.proofs.Common.{◌≡◌, ◌+◌, ◌*◌, ◌≤◌, length, arith}
-use Rattle.spec_bits.specs.Bits.{digits, bits_of_bytes}
-use Rattle.spec_bits.specs.Golomb.{ue_bits, align_bits, to_byte}
-use Rattle.spec_bits.proofs.Digits.{length-digits, length-bits_of_bytes}
+use Rattle.std.proofs.Common.{length, arith}
+use Rattle.spec_bits.specs.Golomb.{align_bits}
 use Rattle.stored_picture.proofs.Fits.{appended, length-align_bits}
 use Rattle.stored_picture.proofs.append.append_zeros_to_byte.Goals as goal
 

@@ -1,11 +1,11 @@
-use Rattle.std.proofs.Common.{ℕ, ◌≡◌, ◌≤◌, ◌<◌, ◌+◌, ◌*◌, ◌-◌, ◌/◌, ◌%◌, ◌∙◌, ap, sym, refl, subst, length, Bool, List, arith}
+use Rattle.std.proofs.Common.{ℕ, ◌≡◌, ◌*◌, ◌/◌, ◌%◌, ◌∙◌, ap, sym, refl, length, Bool, List, arith}
 use Rattle.spec_bits.specs.Bits.{bits_of_bytes}
-use Rattle.spec_bits.specs.Golomb.{ue_bits, align_bits, to_byte}
+use Rattle.spec_bits.specs.Golomb.{ue_bits, align_bits}
 use Rattle.spec_stream.specs.Stored.{block_at}
 use Rattle.spec_stream.proofs.StoredLaws.{ue_25}
 use Rattle.picture_planes.specs.Samples.{samples_of}
 use Rattle.picture_planes.specs.Pictures.{planes_of}
-use Rattle.stored_picture.proofs.BlockText.{with_more, typed_length, zeros_length, same_room, pcm_text}
+use Rattle.stored_picture.proofs.BlockText.{macroblock_bytes, with_more, typed_length, zeros_length, same_room, pcm_text}
 use Rattle.stored_picture.proofs.blocks.append_macroblock.Goals as goal
 
 pub append_ue-requires-clause-room : goal.append_ue-requires-clause-room
@@ -97,3 +97,13 @@ returns-clause-text c =
     (c.append_block.ensures.text ∙ ap (λ (w : ℕ). with_more c.append_zeros_to_byte.new.out (bits_of_bytes (block_at w 16 16 (16 * (c.args.k % a)) (16 * (c.args.k / a)) (samples_of p.y)))) wide)
     (c.append_block-2.ensures.text ∙ ap (λ (w : ℕ). with_more c.append_block.new.out (bits_of_bytes (block_at w 8 8 (8 * (c.args.k % a)) (8 * (c.args.k / a)) (samples_of p.cb)))) cb)
     (c.append_block-3.ensures.text ∙ ap (λ (w : ℕ). with_more c.append_block-2.new.out (bits_of_bytes (block_at w 8 8 (8 * (c.args.k % a)) (8 * (c.args.k / a)) (samples_of p.cr)))) cr)
+
+pub returns-clause-bytes : goal.returns-clause-bytes
+returns-clause-bytes c =
+    let p = c.args.picture.now in
+    let a = c.args.across in
+    let wide : p.y.width ≡ 16 * a = sym c.requires.picture.wide in
+    let w = p.widths in
+    let cb : p.cb.width ≡ 8 * a = let x = w.0 in omega arith in
+    let cr : p.cr.width ≡ 8 * a = let x = w.1 in omega arith in
+    macroblock_bytes a c.args.k (planes_of p) p.y.width p.cb.width p.cr.width wide cb cr c.append_block.ensures.bytes c.append_block-2.ensures.bytes c.append_block-3.ensures.bytes

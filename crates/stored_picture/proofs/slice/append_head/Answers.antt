@@ -1,4 +1,4 @@
-use Rattle.std.proofs.Common.{◌≡◌, ◌+◌, ◌≤◌, ◌∙◌, ap, List, [], ◌++◌, length, Bool, arith}
+use Rattle.std.proofs.Common.{ap, length, arith}
 use Rattle.spec_bits.specs.Heads.{slice_head_bits}
 use Rattle.spec_stream.specs.Stored.{stored_slice_head}
 use Rattle.bit_strings.specs.BitText.{BitText}

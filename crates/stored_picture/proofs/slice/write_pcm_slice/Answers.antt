@@ -1,10 +1,9 @@
-use Rattle.std.proofs.Common.{◌≡◌, ◌+◌, ◌*◌, ◌%◌, ◌≤◌, ◌<◌, ◌∙◌, ap, length, arith, length-append, mul-pos}
+use Rattle.std.proofs.Common.{◌<◌, ap, length, arith, length-append, mul-pos}
 use Rattle.spec_bits.specs.Bits.{digits}
 use Rattle.spec_bits.proofs.Digits.{length-digits}
 use Rattle.picture_planes.specs.Pictures.{planes_of}
 use Rattle.bit_strings.specs.BitText.{BitText}
 use Rattle.stored_picture.proofs.BlockText.{slice_text}
-use Rattle.stored_picture.proofs.Lengths.{length-slice_head_bits}
 use Rattle.stored_picture.proofs.slice.write_pcm_slice.Goals as goal
 
 pub append_macroblocks-requires-clause-room : goal.append_macroblocks-requires-clause-room
