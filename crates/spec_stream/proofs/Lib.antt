@@ -4,4 +4,5 @@ pub mod FilmPictures
 pub mod PcmLaws
 pub mod PictureLaws
 pub mod PlaneLaws
+mod Rows
 pub mod StoredLaws
