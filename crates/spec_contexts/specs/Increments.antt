@@ -1,5 +1,6 @@
 -- ctxIdxInc by the neighbouring macroblocks A, at the left, and B, above (ITU-T H.264, clause 9.3.3.1.1). Each `.._flag` is condTermFlagN.
 use Rattle.std.specs.Prelude.{ℕ, zero, suc, ◌+◌, ◌-◌, ◌*◌, ◌/◌, ◌%◌, ◌^◌, ◌==◌, Bool, true, false, not, ◌&&◌, ◌||◌, nat_lt, nat_le, Option, Some, None, if◌then◌else◌, ℤ, pos, negsuc, nat_abs, List, [], ◌∷◌, slice_index, slice_index_or, slice_range}
+use Rattle.std.specs.List.{list_any}
 use Rattle.enc_tables.specs.declared.records.MbRecord.{MbRecord}
 use Rattle.enc_tables.specs.declared.records.MbKind.{MbKind}
 use Rattle.enc_tables.specs.declared.records.Motion.{Motion}
@@ -155,8 +156,7 @@ is_level (negsuc n) = true
 
 -- some level isn't 0
 abbrev pub some_level : List ℤ → Bool
-some_level [] = false
-some_level (x ∷ xs) = is_level x || some_level xs
+some_level levels = list_any is_level levels
 
 -- a neighbour that isn't available counts 1 in intra macroblocks and 0 in inter ones; I_PCM counts 1; in a skipped macroblock no
 -- block is written; else it is the flag of the neighbouring block, 0 where that isn't written

@@ -31,10 +31,10 @@ unfoldable pub start_state : List ℤ → ℕ → ℕ → CtxState
 start_state pairs qp c = state_at (pre_state (slice_index_or pairs (2 * c) (pos 0)) (slice_index_or pairs (2 * c + 1) (pos 0)) qp)
 
 -- the states of the contexts 0 to 435
-unfoldable pub start_states : SliceKind → ℕ → List CtxState
-start_states kind qp = map (start_state (pairs_of kind) qp) (range_with_len 0 436)
+unfoldable pub start_states : List ℤ → ℕ → List CtxState
+start_states pairs qp = map (start_state pairs qp) (range_with_len 0 436)
 
--- the contexts that slices of frames use, coded by macroblocks that aren't of field pairs, up to the levels of 8x8 blocks
+-- the contexts that frames use: those of slices of each kind, and those of P and B slices alone
 abbrev pub InEachSlice : ℕ → Type 0
 InEachSlice c = (c ≤ 10) ⊎ ((60 ≤ c) × (c ≤ 69)) ⊎ ((73 ≤ c) × (c ≤ 275)) ⊎ ((399 ≤ c) × (c ≤ 435))
 
