@@ -2,8 +2,8 @@
 use Rattle.std.specs.Prelude.{ℕ, List, slice_set}
 use Rattle.std.specs.Borrow.{Lends, MutBor, Fml, Array}
 use Rattle.enc_tables.specs.declared.records.CtxState.{CtxState}
-use Rattle.enc_tables.specs.contracts.records.CtxState.{the_row as state_row}
+use Rattle.enc_tables.specs.contracts.records.CtxState.{the_row}
 
--- r is item i of the states s, lent for writing
-abbrev pub LendsItem : MutBor (List CtxState) → ℕ → MutBor CtxState → Fml
-LendsItem s i r = Lends (Array state_row 0) state_row s r (slice_set s.now i)
+-- r is the state of context i of the states s, lent for writing
+abbrev pub LendsState : MutBor (List CtxState) → ℕ → MutBor CtxState → Fml
+LendsState s i r = Lends (Array the_row 0) the_row s r (slice_set s.now i)

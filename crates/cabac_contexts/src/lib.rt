@@ -2,6 +2,13 @@
 //! left and above (ITU-T H.264, clauses 9.3.1.1 and 9.3.3.1.1).
 #![tactic(auto)]
 
+mod increments;
+mod kinds;
+mod near;
 mod states;
 
-pub use states::Contexts;
+pub use increments::{
+    inc_chroma_cbp, inc_chroma_mode, inc_luma_cbp, inc_qp_delta, inc_skip, inc_transform,
+    inc_type_b, inc_type_i,
+};
+pub use states::{Contexts, state};

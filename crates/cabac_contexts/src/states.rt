@@ -1,8 +1,9 @@
 // The states of the contexts of a slice.
-ghost use Rattle.std.specs.Prelude.{◌≡◌, ◌≤◌, ◌<◌, ◌+◌, ◌*◌, ℕ, length, slice_index_or};
+ghost use Rattle.std.specs.Prelude.{◌≡◌, ◌≤◌, ◌<◌, ◌+◌, ◌*◌, ℕ, min, ℤ, pos, ◌*ℤ◌, ◌+ℤ◌, ◌-ℤ◌, ◌≤ℤ◌, length, slice_index_or};
+ghost use Rattle.std.specs.Int.{int_shr};
 ghost use Rattle.std.specs.Borrow.{sem};
-ghost use Rattle.spec_contexts.specs.States.{pairs_of, pre_state as pre_state_of, state_at as state_of, start_state as start_state_of, start_states};
-ghost use Rattle.cabac_contexts.specs.Lending.{LendsItem};
+ghost use Rattle.spec_contexts.specs.States.{no_state, AllKnown, pairs_of, clipped as clipped_of, pre_state as pre_state_of, state_at as state_of, start_state as start_state_of, start_states};
+ghost use Rattle.cabac_contexts.specs.Lending.{LendsState};
 
 use enc_tables::{CONTEXT_PAIRS_I, CONTEXT_PAIRS_PB, CtxState, SliceKind};
 
@@ -19,39 +20,57 @@ impl Contexts {
     pub fn init(kind: SliceKind, qp: u8) -> Contexts
         requires { qp ≤ 51 }
         ensures states { result.states ≡ start_states (pairs_of kind) qp }
+        ensures known { AllKnown result.states }
     {
-        let states = match kind {
-            SliceKind::I => started(&CONTEXT_PAIRS_I, qp),
-            SliceKind::P => started(&CONTEXT_PAIRS_PB, qp),
-            SliceKind::B => started(&CONTEXT_PAIRS_PB, qp),
-        };
+        let states = started(pairs(kind), qp);
         Contexts { states }
     }
 }
 
-fn item(states: &mut [CtxState], index: usize) -> &mut CtxState
+/// Lends the state of context `index` for writing; all other states stay. `states` are those of `Contexts`, and the index is below
+/// their number.
+#[inline]
+pub fn state(states: &mut [CtxState], index: u16) -> &mut CtxState
     requires { index < length states.old }
-    ensures* writes_back { sem 𝓛 (LendsItem states.entry index result) }
-    ensures value { result.now ≡ slice_index_or states.old index result.now }
+    ensures* writes_back { sem 𝓛 (LendsState states.entry index result) }
+    ensures value { result.now ≡ slice_index_or states.old index no_state }
 {
-    &mut states[index]
+    &mut states[index as usize]
+}
+
+// The pairs m, n of a slice's contexts.
+fn pairs(kind: SliceKind) -> &'static [i8; 872]
+    ensures { result.now ≡ pairs_of kind }
+{
+    match kind {
+        SliceKind::I => &CONTEXT_PAIRS_I,
+        SliceKind::P | SliceKind::B => &CONTEXT_PAIRS_PB,
+    }
 }
 
 fn started(pairs: &[i8; 872], qp: u8) -> [CtxState; 436]
     requires { qp ≤ 51 }
-    ensures { result ≡ start_states pairs.now qp }
+    ensures states { result ≡ start_states pairs.now qp }
+    ensures known { AllKnown result }
 {
-    let mut states = [CtxState {
-        state: 0,
-        mps: false,
-    }; 436];
+    let mut states = blank();
     for index in 0..436 {
         states[index] = start_state(pairs, index, qp);
     }
     states
 }
 
+fn blank() -> [CtxState; 436]
+    ensures { AllKnown result }
+{
+    [CtxState {
+        state: 0,
+        mps: false,
+    }; 436]
+}
+
 // The state of one context.
+#[tactic(auto, unfolding(spec_contexts::specs::States::start_state))]
 fn start_state(pairs: &[i8; 872], index: usize, qp: u8) -> CtxState
     requires index { index < 436 }
     requires qp { qp ≤ 51 }
@@ -61,14 +80,45 @@ fn start_state(pairs: &[i8; 872], index: usize, qp: u8) -> CtxState
     state_at(pre_state(pairs[2 * index], pairs[2 * index + 1], qp))
 }
 
+#[tactic(auto, unfolding(spec_contexts::specs::States::pre_state))]
 fn pre_state(m: i8, n: i8, qp: u8) -> u8
     requires { qp ≤ 51 }
     ensures value { result ≡ pre_state_of m n qp }
     ensures least { 1 ≤ result }
     ensures most { result ≤ 126 }
 {
-    let line = ((m as i16 * qp as i16) >> 4) + n as i16;
-    line.clamp(1, 126) as u8
+    clipped(slope(m, qp) + n as i16)
+}
+
+fn slope(m: i8, qp: u8) -> i16
+    requires { qp ≤ 51 }
+    ensures value { result ≡ int_shr (m *ℤ pos (min 51 qp)) 4 }
+    ensures low { (pos 0 -ℤ pos 408) ≤ℤ result }
+    ensures high { result ≤ℤ pos 405 }
+{
+    sixteenth(m as i16 * qp as i16)
+}
+
+fn sixteenth(x: i16) -> i16
+    ensures value { result ≡ int_shr x 4 }
+    ensures low { x ≤ℤ ((pos 16 *ℤ result) +ℤ pos 15) }
+    ensures high { (pos 16 *ℤ result) ≤ℤ x }
+{
+    x >> 4
+}
+
+fn clipped(x: i16) -> u8
+    ensures value { result ≡ clipped_of x }
+    ensures least { 1 ≤ result }
+    ensures most { result ≤ 126 }
+{
+    if x < 1 {
+        1
+    } else if x > 126 {
+        126
+    } else {
+        x as u8
+    }
 }
 
 fn state_at(pre: u8) -> CtxState

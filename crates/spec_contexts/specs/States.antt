@@ -34,6 +34,14 @@ start_state pairs qp c = state_at (pre_state (slice_index_or pairs (2 * c) (pos 
 unfoldable pub start_states : List ℤ → ℕ → List CtxState
 start_states pairs qp = map (start_state pairs qp) (range_with_len 0 436)
 
+-- where a list of states ends
+abbrev pub no_state : CtxState
+no_state = record { state = 0; mps = false }
+
+-- each state is one of the arithmetic coder's
+abbrev pub AllKnown : List CtxState → Type 0
+AllKnown states = (c : ℕ) → (slice_index_or states c no_state).state ≤ 63
+
 -- the contexts that frames use: those of slices of each kind, and those of P and B slices alone
 abbrev pub InEachSlice : ℕ → Type 0
 InEachSlice c = (c ≤ 10) ⊎ ((60 ≤ c) × (c ≤ 69)) ⊎ ((73 ≤ c) × (c ≤ 275)) ⊎ ((399 ≤ c) × (c ≤ 435))
