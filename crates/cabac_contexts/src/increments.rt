@@ -1,5 +1,5 @@
 // Which context an element takes, by the macroblocks at the left and above (ITU-T H.264, clause 9.3.3.1.1).
-ghost use Rattle.std.specs.Prelude.{◌≡◌, ℕ, ◌<◌, ◌≤◌, not};
+ghost use Rattle.std.specs.Prelude.{◌≡◌, ◌≤◌, ◌==◌, not, if◌then◌else◌};
 ghost use Rattle.spec_contexts.specs.Near.{pointed};
 ghost use Rattle.spec_contexts.specs.Increments.{bit_of, weight as weight_of, plain as plain_of, doubled as doubled_of, skip_flag as skip_flag_of, type_i_flag as type_i_flag_of, type_b_flag as type_b_flag_of, chroma_mode_flag as chroma_mode_flag_of, transform_flag as transform_flag_of, luma_cbp_flag as luma_cbp_flag_of, chroma_cbp_flag as chroma_cbp_flag_of, inc_skip as inc_skip_of, inc_type_i as inc_type_i_of, inc_type_b as inc_type_b_of, inc_chroma_mode as inc_chroma_mode_of, inc_transform as inc_transform_of, inc_qp_delta as inc_qp_delta_of, inc_luma_cbp as inc_luma_cbp_of, inc_chroma_cbp as inc_chroma_cbp_of};
 

@@ -1,6 +1,6 @@
 // The macroblocks and blocks at the left and above (ITU-T H.264, clauses 6.4.11 and 6.4.12).
-ghost use Rattle.std.specs.Prelude.{◌≡◌, ◌<◌, ◌≤◌, if◌then◌else◌};
-ghost use Rattle.spec_contexts.specs.Near.{pointed, left_holder2, above_holder2, left_holder4, above_holder4, left_block2 as left2_of, above_block2 as above2_of, left_block4 as left4_of, above_block4 as above4_of};
+ghost use Rattle.std.specs.Prelude.{◌≡◌, ◌==◌, ◌<◌, ◌≤◌, if◌then◌else◌};
+ghost use Rattle.spec_contexts.specs.Near.{pointed, column4, row4, left_holder2, above_holder2, left_holder4, above_holder4, left_block2 as left2_of, above_block2 as above2_of, left_block4 as left4_of, above_block4 as above4_of};
 
 use enc_tables::MbRecord;
 
@@ -67,13 +67,31 @@ pub fn above_of2<'a>(
     if block < 2 { above } else { Some(mb) }
 }
 
+// Whether a 4x4 luma block stands in the macroblock's left column.
+#[inline]
+fn is_leftmost4(block: u8) -> bool
+    requires { block ≤ 15 }
+    ensures { result ≡ (column4 block == 0) }
+{
+    block & 5 == 0
+}
+
+// Whether a 4x4 luma block stands in the macroblock's upper row.
+#[inline]
+fn is_upmost4(block: u8) -> bool
+    requires { block ≤ 15 }
+    ensures { result ≡ (row4 block == 0) }
+{
+    block & 10 == 0
+}
+
 // The same for 4x4 luma blocks, of which four stand in a row.
 #[inline]
 pub fn left_of4<'a>(mb: &'a MbRecord, left: Option<&'a MbRecord>, block: u8) -> Option<&'a MbRecord>
     requires { block ≤ 15 }
     ensures { pointed result ≡ left_holder4 mb.now (pointed left.entry) block }
 {
-    if block & 5 == 0 { left } else { Some(mb) }
+    if is_leftmost4(block) { left } else { Some(mb) }
 }
 
 #[inline]
@@ -85,5 +103,5 @@ pub fn above_of4<'a>(
     requires { block ≤ 15 }
     ensures { pointed result ≡ above_holder4 mb.now (pointed above.entry) block }
 {
-    if block & 10 == 0 { above } else { Some(mb) }
+    if is_upmost4(block) { above } else { Some(mb) }
 }
