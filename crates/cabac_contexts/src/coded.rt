@@ -99,14 +99,16 @@ fn chroma_ac_flag(mb: &MbRecord, near: Option<&MbRecord>, component: u8, block: 
 }
 
 fn inc_luma_dc(mb: &MbRecord, left: Option<&MbRecord>, above: Option<&MbRecord>) -> u8
-    ensures { result ≡ inc_luma_dc_of mb.now (pointed left.entry) (pointed above.entry) }
+    ensures value { result ≡ inc_luma_dc_of mb.now (pointed left.entry) (pointed above.entry) }
+    ensures most { result ≤ 3 }
 {
     doubled(luma_dc_flag(mb, left), luma_dc_flag(mb, above))
 }
 
 fn inc_luma(mb: &MbRecord, left: Option<&MbRecord>, above: Option<&MbRecord>, block: u8) -> u8
     requires { block ≤ 15 }
-    ensures { result ≡ inc_luma_of mb.now (pointed left.entry) (pointed above.entry) block }
+    ensures value { result ≡ inc_luma_of mb.now (pointed left.entry) (pointed above.entry) block }
+    ensures most { result ≤ 3 }
 {
     doubled(
         luma_flag(mb, left_of4(mb, left, block), left_block4(block)),
@@ -121,7 +123,8 @@ fn inc_chroma_dc(
     component: u8,
 ) -> u8
     requires { component ≤ 1 }
-    ensures { result ≡ inc_chroma_dc_of mb.now (pointed left.entry) (pointed above.entry) component }
+    ensures value { result ≡ inc_chroma_dc_of mb.now (pointed left.entry) (pointed above.entry) component }
+    ensures most { result ≤ 3 }
 {
     doubled(
         chroma_dc_flag(mb, left, component),
@@ -138,7 +141,8 @@ fn inc_chroma_ac(
 ) -> u8
     requires component { component ≤ 1 }
     requires block { block ≤ 3 }
-    ensures { result ≡ inc_chroma_ac_of mb.now (pointed left.entry) (pointed above.entry) component block }
+    ensures value { result ≡ inc_chroma_ac_of mb.now (pointed left.entry) (pointed above.entry) component block }
+    ensures most { result ≤ 3 }
 {
     doubled(
         chroma_ac_flag(mb, left_of2(mb, left, block), component, left_block2(block)),
@@ -169,7 +173,8 @@ pub fn inc_coded(
     requires component { component ≤ 1 }
     requires block { block ≤ 15 }
     requires chroma_block { category ≡ 4 → block ≤ 3 }
-    ensures { result ≡ inc_coded_of mb.now (pointed left.entry) (pointed above.entry) category component block }
+    ensures value { result ≡ inc_coded_of mb.now (pointed left.entry) (pointed above.entry) category component block }
+    ensures most { result ≤ 3 }
 {
     match category {
         0 => inc_luma_dc(mb, left, above),

@@ -18,7 +18,8 @@ pub fn weight(flag: bool) -> u8
 // The left flag and the one above.
 #[inline]
 pub fn plain(left: bool, above: bool) -> u8
-    ensures { result ≡ plain_of left above }
+    ensures value { result ≡ plain_of left above }
+    ensures most { result ≤ 2 }
 {
     weight(left) + weight(above)
 }
@@ -26,7 +27,8 @@ pub fn plain(left: bool, above: bool) -> u8
 // The left flag and twice the one above.
 #[inline]
 pub fn doubled(left: bool, above: bool) -> u8
-    ensures { result ≡ doubled_of left above }
+    ensures value { result ≡ doubled_of left above }
+    ensures most { result ≤ 3 }
 {
     weight(left) + 2 * weight(above)
 }
@@ -113,7 +115,8 @@ fn has_chroma(pattern: u8, second: bool) -> bool
 /// as in the other calls.
 #[tactic(auto, unfolding(spec_contexts::specs::Increments::inc_skip))]
 pub fn inc_skip(left: Option<&MbRecord>, above: Option<&MbRecord>) -> u8
-    ensures { result ≡ inc_skip_of (pointed left.entry) (pointed above.entry) }
+    ensures value { result ≡ inc_skip_of (pointed left.entry) (pointed above.entry) }
+    ensures most { result ≤ 2 }
 {
     plain(skip_flag(left), skip_flag(above))
 }
@@ -121,7 +124,8 @@ pub fn inc_skip(left: Option<&MbRecord>, above: Option<&MbRecord>) -> u8
 /// The increment of mb_type's first context in I slices (clause 9.3.3.1.1.3).
 #[tactic(auto, unfolding(spec_contexts::specs::Increments::inc_type_i))]
 pub fn inc_type_i(left: Option<&MbRecord>, above: Option<&MbRecord>) -> u8
-    ensures { result ≡ inc_type_i_of (pointed left.entry) (pointed above.entry) }
+    ensures value { result ≡ inc_type_i_of (pointed left.entry) (pointed above.entry) }
+    ensures most { result ≤ 2 }
 {
     plain(type_i_flag(left), type_i_flag(above))
 }
@@ -129,7 +133,8 @@ pub fn inc_type_i(left: Option<&MbRecord>, above: Option<&MbRecord>) -> u8
 /// The increment of mb_type's first context in B slices (clause 9.3.3.1.1.3).
 #[tactic(auto, unfolding(spec_contexts::specs::Increments::inc_type_b))]
 pub fn inc_type_b(left: Option<&MbRecord>, above: Option<&MbRecord>) -> u8
-    ensures { result ≡ inc_type_b_of (pointed left.entry) (pointed above.entry) }
+    ensures value { result ≡ inc_type_b_of (pointed left.entry) (pointed above.entry) }
+    ensures most { result ≤ 2 }
 {
     plain(type_b_flag(left), type_b_flag(above))
 }
@@ -137,7 +142,8 @@ pub fn inc_type_b(left: Option<&MbRecord>, above: Option<&MbRecord>) -> u8
 /// The increment of intra_chroma_pred_mode's first context (clause 9.3.3.1.1.8).
 #[tactic(auto, unfolding(spec_contexts::specs::Increments::inc_chroma_mode))]
 pub fn inc_chroma_mode(left: Option<&MbRecord>, above: Option<&MbRecord>) -> u8
-    ensures { result ≡ inc_chroma_mode_of (pointed left.entry) (pointed above.entry) }
+    ensures value { result ≡ inc_chroma_mode_of (pointed left.entry) (pointed above.entry) }
+    ensures most { result ≤ 2 }
 {
     plain(chroma_mode_flag(left), chroma_mode_flag(above))
 }
@@ -145,7 +151,8 @@ pub fn inc_chroma_mode(left: Option<&MbRecord>, above: Option<&MbRecord>) -> u8
 /// The increment of transform_size_8x8_flag's context (clause 9.3.3.1.1.10).
 #[tactic(auto, unfolding(spec_contexts::specs::Increments::inc_transform))]
 pub fn inc_transform(left: Option<&MbRecord>, above: Option<&MbRecord>) -> u8
-    ensures { result ≡ inc_transform_of (pointed left.entry) (pointed above.entry) }
+    ensures value { result ≡ inc_transform_of (pointed left.entry) (pointed above.entry) }
+    ensures most { result ≤ 2 }
 {
     plain(transform_flag(left), transform_flag(above))
 }
@@ -153,7 +160,8 @@ pub fn inc_transform(left: Option<&MbRecord>, above: Option<&MbRecord>) -> u8
 /// The increment of mb_qp_delta's first context (clause 9.3.3.1.1.5). `last_delta`: the macroblock before in the slice has a written
 /// difference that isn't 0.
 pub fn inc_qp_delta(last_delta: bool) -> u8
-    ensures { result ≡ inc_qp_delta_of last_delta }
+    ensures value { result ≡ inc_qp_delta_of last_delta }
+    ensures most { result ≤ 1 }
 {
     weight(last_delta)
 }
@@ -168,7 +176,8 @@ pub fn inc_luma_cbp(
     block: u8,
 ) -> u8
     requires { block ≤ 3 }
-    ensures { result ≡ inc_luma_cbp_of mb.now (pointed left.entry) (pointed above.entry) block }
+    ensures value { result ≡ inc_luma_cbp_of mb.now (pointed left.entry) (pointed above.entry) block }
+    ensures most { result ≤ 3 }
 {
     doubled(
         luma_cbp_flag(left_of2(mb, left, block), left_block2(block)),
@@ -180,7 +189,8 @@ pub fn inc_luma_cbp(
 /// contexts are four others.
 #[tactic(auto, unfolding(spec_contexts::specs::Increments::inc_chroma_cbp))]
 pub fn inc_chroma_cbp(left: Option<&MbRecord>, above: Option<&MbRecord>, second: bool) -> u8
-    ensures { result ≡ inc_chroma_cbp_of (pointed left.entry) (pointed above.entry) second }
+    ensures value { result ≡ inc_chroma_cbp_of (pointed left.entry) (pointed above.entry) second }
+    ensures most { result ≤ 3 }
 {
     doubled(
         chroma_cbp_flag(left, second),

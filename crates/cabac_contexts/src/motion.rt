@@ -59,7 +59,8 @@ fn mvd_size(near: Option<&MbRecord>, list: u8, block: u8, vertical: bool) -> u32
 }
 
 fn mvd_class(sum: u32) -> u8
-    ensures { result ≡ mvd_class_of sum }
+    ensures value { result ≡ mvd_class_of sum }
+    ensures most { result ≤ 2 }
 {
     match sum {
         0..3 => 0,
@@ -80,7 +81,8 @@ pub fn inc_ref(
 ) -> u8
     requires list { list ≤ 1 }
     requires block { block ≤ 3 }
-    ensures { result ≡ inc_ref_of mb.now (pointed left.entry) (pointed above.entry) list block }
+    ensures value { result ≡ inc_ref_of mb.now (pointed left.entry) (pointed above.entry) list block }
+    ensures most { result ≤ 3 }
 {
     doubled(
         ref_flag(left_of2(mb, left, block), list, left_block2(block)),
@@ -101,7 +103,8 @@ pub fn inc_mvd(
 ) -> u8
     requires list { list ≤ 1 }
     requires block { block ≤ 3 }
-    ensures { result ≡ inc_mvd_of mb.now (pointed left.entry) (pointed above.entry) list block vertical }
+    ensures value { result ≡ inc_mvd_of mb.now (pointed left.entry) (pointed above.entry) list block vertical }
+    ensures most { result ≤ 2 }
 {
     let a = mvd_size(
         left_of2(mb, left, block),
