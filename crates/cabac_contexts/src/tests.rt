@@ -1,5 +1,5 @@
 use crate::{Contexts, inc_chroma_cbp, inc_coded, inc_luma_cbp};
-use enc_tables::{CtxState, MbKind, MbRecord, Motion, SliceKind, Vector};
+use enc_tables::{MbKind, MbRecord, Motion, SliceKind, Vector};
 use std::test::Fail;
 
 const NO_VECTOR: Vector = Vector { x: 0, y: 0 };
@@ -29,13 +29,9 @@ fn blank(kind: MbKind) -> MbRecord {
 #[test]
 fn first_context(rt: HostRuntime) -> Result<(), Fail> {
     let contexts = Contexts::init(SliceKind::I, 24);
-    assert_eq!(rt;
-        contexts.states[0],
-        CtxState {
-            state: 48,
-            mps: false
-        }
-    );
+    assert_eq!(rt; contexts.states[0].state, 48);
+    assert_eq!(rt; contexts.states[0].mps, false);
+    Ok(())
 }
 
 // By the rules for neighbours that aren't available, and for I_PCM.

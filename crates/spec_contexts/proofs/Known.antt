@@ -1,7 +1,7 @@
 -- States of the arithmetic coder, read and replaced.
-use Rattle.std.proofs.Common.{◌≡◌, ◌≤◌, ℕ, zero, suc, List, [], ◌∷◌, slice_index_or, slice_set, arith}
+use Rattle.std.proofs.Common.{◌≤◌, ℕ, zero, suc, List, [], ◌∷◌, slice_set}
 use Rattle.enc_tables.specs.declared.records.CtxState.{CtxState}
-use Rattle.spec_contexts.specs.States.{no_state, AllKnown}
+use Rattle.spec_contexts.specs.States.{AllKnown}
 
 pub known_set : (states : List CtxState) (i : ℕ) (w : CtxState) → AllKnown states → w.state ≤ 63 → AllKnown (slice_set states i w)
 known_set [] i w known h c = known c

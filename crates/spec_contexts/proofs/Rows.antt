@@ -1,9 +1,8 @@
 -- Worked numbers: the definitions computed.
-use Rattle.std.proofs.Common.{◌≡◌, ℕ, pos, negsuc, true, false, List, [], ◌∷◌, map, refl}
+use Rattle.std.proofs.Common.{◌≡◌, pos, negsuc, true, false, [], ◌∷◌, map, refl}
 use Rattle.std.specs.List.{range_with_len}
 use Rattle.enc_tables.specs.declared.contexts.TheConstants.{CONTEXT_PAIRS_I, CONTEXT_PAIRS_PB}
-use Rattle.enc_tables.specs.declared.records.CtxState.{CtxState}
-use Rattle.spec_contexts.specs.States.{pre_state, start_state, state_at}
+use Rattle.spec_contexts.specs.States.{pre_state, start_state}
 use Rattle.spec_contexts.specs.Near.{left_block2, above_block2, left_block4, above_block4}
 
 -- the pair 20, -15 at 24: (480 >> 4) - 15 = 15

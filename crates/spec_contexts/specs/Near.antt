@@ -1,5 +1,5 @@
 -- The macroblocks and blocks at the left and above (ITU-T H.264, clauses 6.4.11 and 6.4.12). None is a macroblock that isn't available.
-use Rattle.std.specs.Prelude.{ℕ, ◌+◌, ◌-◌, ◌*◌, ◌/◌, ◌%◌, ◌==◌, Bool, Option, Some, None, if◌then◌else◌}
+use Rattle.std.specs.Prelude.{ℕ, ◌+◌, ◌*◌, ◌/◌, ◌%◌, ◌==◌, Option, Some, None, if◌then◌else◌}
 use Rattle.std.specs.Borrow.{Bor}
 use Rattle.enc_tables.specs.declared.records.MbRecord.{MbRecord}
 

@@ -1,5 +1,5 @@
 -- The states of the contexts where a slice starts (ITU-T H.264, clause 9.3.1.1).
-use Rattle.std.specs.Prelude.{ℕ, ◌+◌, ◌-◌, ◌*◌, ◌≤◌, ◌<◌, min, true, false, if◌then◌else◌, nat_le, ◌⊎◌, ℤ, pos, negsuc, ◌+ℤ◌, ◌*ℤ◌, List, map, slice_index_or}
+use Rattle.std.specs.Prelude.{ℕ, ◌+◌, ◌-◌, ◌*◌, ◌≤◌, min, true, false, if◌then◌else◌, nat_le, ◌⊎◌, ℤ, pos, negsuc, ◌+ℤ◌, ◌*ℤ◌, List, map, slice_index_or}
 use Rattle.std.specs.Int.{int_shr}
 use Rattle.std.specs.List.{range_with_len}
 use Rattle.enc_tables.specs.declared.contexts.TheConstants.{CONTEXT_PAIRS_I, CONTEXT_PAIRS_PB}
