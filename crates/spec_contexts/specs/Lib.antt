@@ -1,0 +1,4 @@
+pub mod States
+pub mod Kinds
+pub mod Near
+pub mod Increments
