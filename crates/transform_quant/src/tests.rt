@@ -1,4 +1,7 @@
 // The calls against numbers that were computed by hand or by another program.
+mod every_parameter;
+mod table;
+
 use crate::*;
 
 // Sixteen differences, and their transform.
