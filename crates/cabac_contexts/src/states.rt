@@ -10,7 +10,8 @@ use enc_tables::{CONTEXT_PAIRS_I, CONTEXT_PAIRS_PB, CtxState, SliceKind};
 /// The states of the contexts of a slice.
 #[derive(Clone, Copy)]
 pub struct Contexts {
-    /// By context number. The contexts 70 to 72 and 276 to 398, and in I slices 11 to 59, aren't used by slices of frames.
+    /// By context number. The contexts 70 to 72 and 276 to 398, and in I slices 11 to 59, aren't used by slices of frames; they start
+    /// from the pair 0, 0, as the state 62 of 0.
     pub states: [CtxState; 436],
 }
 
