@@ -1,0 +1,4 @@
+pub mod Syntax
+pub mod Numbers
+pub mod Elements
+pub mod Levels
