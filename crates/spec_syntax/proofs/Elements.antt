@@ -84,8 +84,8 @@ reads_chroma_pattern first second n h = record { walk = walks_chroma_pattern fir
 
 walks_qp_delta : (inc : ℕ) (d : ℤ) → IsDelta d → Walks (qp_delta inc) (qp_delta_string inc d) d
 unfolding qp_delta qp_delta_string
-walks_qp_delta inc (pos n) h = below_5 (λ n. Walks (qp_delta inc) (qp_delta_string inc (pos n)) (pos n)) (assumption refl) (assumption refl) (assumption refl) (assumption refl) (assumption refl) n h
-walks_qp_delta inc (negsuc n) h = below_4 (λ n. Walks (qp_delta inc) (qp_delta_string inc (negsuc n)) (negsuc n)) (assumption refl) (assumption refl) (assumption refl) (assumption refl) n h
+walks_qp_delta inc (pos n) h = below_5 (λ n. Walks (qp_delta inc) (qp_delta_string inc (pos n)) (pos n)) (assumption refl) (assumption refl) (assumption refl) (assumption refl) (assumption refl) n (omega (arith, h))
+walks_qp_delta inc (negsuc n) h = below_4 (λ n. Walks (qp_delta inc) (qp_delta_string inc (negsuc n)) (negsuc n)) (assumption refl) (assumption refl) (assumption refl) (assumption refl) n (omega (arith, h))
 
 pub reads_qp_delta : (inc : ℕ) (d : ℤ) → IsDelta d → Reads (qp_delta inc) (qp_delta_string inc d) d
 reads_qp_delta inc d h = record { walk = walks_qp_delta inc d h }

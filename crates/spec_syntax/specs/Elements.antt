@@ -1,5 +1,5 @@
 -- The elements of the macroblock layer in I slices: the bits of each value (ITU-T H.264, clause 9.3.2), and the context of each bin by the bins before it (clause 9.3.3.1, table 9-39). An increment inc is what the macroblocks around say (clause 9.3.3.1.1).
-use Rattle.std.specs.Prelude.{ℕ, zero, suc, ◌+◌, ◌*◌, ◌/◌, ◌%◌, ◌<◌, ◌==◌, Bool, true, false, not, cond, ◌||◌, List, [], ◌∷◌, ◌++◌, Option, Some, None, get_or, ℤ, pos, negsuc}
+use Rattle.std.specs.Prelude.{ℕ, zero, suc, ◌+◌, ◌*◌, ◌/◌, ◌%◌, ◌<◌, ◌==◌, Bool, true, false, not, cond, ◌||◌, List, [], ◌∷◌, ◌++◌, Option, Some, None, get_or, length, nat_abs, ◌≤◌, ℤ, pos, negsuc}
 use Rattle.enc_tables.specs.declared.records.MbKind.{MbKind}
 use Rattle.enc_tables.specs.declared.records.MbRecord.{MbRecord}
 use Rattle.spec_syntax.specs.declared.Bin.{Bin}
@@ -60,14 +60,7 @@ IsIntraType (Whole mode chroma ac) = (mode < 4) × (chroma < 3)
 abbrev pub type_bits : IntraType → List Bool
 type_bits NxN = false ∷ []
 type_bits Pcm = true ∷ true ∷ []
-type_bits (Whole mode chroma ac) = (true ∷ false ∷ ac ∷ chroma_bits chroma) ++ mode_bits mode
-  where
-    chroma_bits : ℕ → List Bool
-    chroma_bits zero = false ∷ []
-    chroma_bits (suc c) = true ∷ (c == 1) ∷ []
-
-    mode_bits : ℕ → List Bool
-    mode_bits mode = (mode / 2 == 1) ∷ (mode % 2 == 1) ∷ []
+type_bits (Whole mode chroma ac) = (true ∷ false ∷ ac ∷ truncated 2 chroma) ++ ((mode / 2 == 1) ∷ (mode % 2 == 1) ∷ [])
 
 abbrev pub type_at : ℕ → List Bool → ℕ
 type_at inc [] = 3 + inc
@@ -147,9 +140,7 @@ luma_pattern_string inc pattern = string (λ before. 73 + inc before) [] (low_fi
 
 -- four increments, by how many bins came before
 abbrev pub inc_of : List ℕ → List Bool → ℕ
-inc_of (i ∷ incs) [] = i
-inc_of (i ∷ incs) (b ∷ before) = inc_of incs before
-inc_of [] before = 0
+inc_of incs before = get_or incs (length before) 0
 
 -- chroma: truncated unary, at most 2
 abbrev pub chroma_pattern_at : ℕ → ℕ → List Bool → ℕ
@@ -175,8 +166,7 @@ mapped (pos (suc n)) = 2 * n + 1
 mapped (negsuc n) = 2 * n + 2
 
 abbrev pub IsDelta : ℤ → Type 0
-IsDelta (pos n) = n < 5
-IsDelta (negsuc n) = n < 4
+IsDelta d = nat_abs d ≤ 4
 
 abbrev pub deltas : List ℤ
 deltas = pos 0 ∷ pos 1 ∷ negsuc 0 ∷ pos 2 ∷ negsuc 1 ∷ pos 3 ∷ negsuc 2 ∷ pos 4 ∷ negsuc 3 ∷ []

@@ -5,8 +5,8 @@
 ghost use Rattle.std.specs.Prelude.{◌≡◌, ℕ, ◌<◌, ◌≤◌, ◌++◌, [], Bool, List, ℤ};
 ghost use Rattle.spec_syntax.specs.declared.Bin.{Bin};
 ghost use Rattle.spec_syntax.specs.Syntax.{Syntax, Reads, ReadsAhead, StandsAlone, flag, flag_string};
-ghost use Rattle.spec_syntax.specs.Elements.{IntraType, IsIntraType, IsDelta, end_of_slice, intra_type, intra_type_string, mode_flag, mode_rem, mode_rem_string, chroma_mode, chroma_mode_string, luma_pattern, luma_pattern_string, chroma_pattern, chroma_pattern_string, transform_flag, qp_delta, qp_delta_string};
-ghost use Rattle.spec_syntax.specs.Levels.{coded_at, significant_at, last_at, first_at, others_at, minus1, minus1_string, sign_at};
+ghost use Rattle.spec_syntax.specs.Elements.{IntraType, IsIntraType, IsDelta, intra_type, intra_type_string, mode_rem, mode_rem_string, chroma_mode, chroma_mode_string, luma_pattern, luma_pattern_string, chroma_pattern, chroma_pattern_string, qp_delta, qp_delta_string};
+ghost use Rattle.spec_syntax.specs.Levels.{minus1, minus1_string};
 
 /// A bin of the arithmetic code.
 #[derive(Clone, Copy, Debug, Default, PartialEq, Eq)]

@@ -1,0 +1,144 @@
+use Rattle.std.proofs.Common.{◌≡◌, ℕ, zero, suc, ◌+◌, ◌-◌, ◌/◌, ◌%◌, ◌^◌, ◌<◌, ◌≤◌, Bool, true, false, List, [], ◌∷◌, ◌++◌, refl, sym, ap, ◌∙◌, arith, append_assoc}
+use Rattle.std.specs.Prelude.{nat_lt, ◌==◌, ℤ}
+use Rattle.spec_syntax.specs.Elements.{Whole, intra_type_string, chroma_mode_string, chroma_pattern_string, mapped, qp_delta_string, delta_at, string}
+use Rattle.spec_syntax.specs.Numbers.{unary}
+use Rattle.std.proofs.lemmas.Bool.Decides.{nat_tests}
+use Rattle.std.proofs.lemmas.List.{append-nil}
+use Rattle.std.proofs.lemmas.Bool.{cases_lt}
+use Rattle.std.proofs.Common.{inl, inr}
+use Rattle.std.proofs.Math.Nat.{pow-suc}
+use Rattle.spec_syntax.specs.Syntax.{at}
+use Rattle.spec_syntax.specs.Numbers.{ones_string, number_string, golomb_string}
+use Rattle.spec_syntax.specs.Levels.{minus1_string}
+
+pub ones_more : (c n v k : ℕ) → k < n → k < v → ones_string c (n - k) (v - k) ≡ at c true ∷ ones_string c (n - (k + 1)) (v - (k + 1))
+unfolding ones_string
+ones_more c n v k h j = let e : n - k ≡ suc (n - (k + 1)) = omega arith in let f : v - k ≡ suc (v - (k + 1)) = omega arith in rw (e, f) refl
+
+pub ones_close : (c n v k : ℕ) → k < n → v ≤ k → ones_string c (n - k) (v - k) ≡ at c false ∷ []
+unfolding ones_string
+ones_close c n v k h j = let e : n - k ≡ suc (n - (k + 1)) = omega arith in let f : v - k ≡ 0 = omega arith in rw (e, f) refl
+
+pub ones_end : (c n v k : ℕ) → n ≤ k → ones_string c (n - k) (v - k) ≡ []
+unfolding ones_string
+ones_end c n v k h = let e : n - k ≡ 0 = omega arith in rw e refl
+
+pub number_low : (n v : ℕ) → v < 2 ^ n → number_string (suc n) v ≡ at 1000 false ∷ number_string n v
+unfolding number_string
+number_low n v h = let e : nat_lt v (2 ^ n) ≡ true = grind (arith, nat_tests) in rw (e, number_string) refl
+
+pub number_high : (n v : ℕ) → 2 ^ n ≤ v → number_string (suc n) v ≡ at 1000 true ∷ number_string n (v - 2 ^ n)
+unfolding number_string
+number_high n v h = let e : nat_lt v (2 ^ n) ≡ false = grind (arith, nat_tests) in rw (e, number_string) refl
+
+pub number_end : (v : ℕ) → number_string 0 v ≡ []
+unfolding number_string
+number_end v = refl
+
+-- one more item at the end of what is written, and less to write
+pub step : {A : Type 0} (all now : List A) (x : A) (rest more : List A) → now ++ rest ≡ all → rest ≡ x ∷ more → (now ++ x ∷ []) ++ more ≡ all
+step all now x rest more h e = append_assoc now (x ∷ []) more ∙ ap (λ (ys : List _). now ++ ys) (sym e) ∙ h
+
+pub golomb_high : (n k v : ℕ) → 2 ^ k ≤ v → golomb_string (suc n) k v ≡ at 1000 true ∷ golomb_string n (suc k) (v - 2 ^ k)
+unfolding golomb_string
+golomb_high n k v h = let e : nat_lt v (2 ^ k) ≡ false = grind (arith, nat_tests) in rw (e, golomb_string) refl
+
+pub golomb_low : (n k v : ℕ) → v < 2 ^ k → golomb_string (suc n) k v ≡ at 1000 false ∷ number_string k v
+unfolding golomb_string
+golomb_low n k v h = let e : nat_lt v (2 ^ k) ≡ true = grind (arith, nat_tests) in rw (e, golomb_string) refl
+
+pub not_twelve : (k rest : ℕ) → k ≤ 12 → 2 ^ k ≤ rest → rest + 2 ^ k < 8192 → k + 1 ≤ 12
+not_twelve k rest h a b = elim (cases_lt k 12) [
+  | inl lt ↦ omega arith
+  | inr le ↦ let e : k ≡ 12 = omega arith in let c = rw e at a in let d = rw e at b in absurd (omega (arith, c, d))
+]
+
+pub golomb_more : (k v : ℕ) → k ≤ 12 → 2 ^ k ≤ v → golomb_string (13 - k) k v ≡ at 1000 true ∷ golomb_string (13 - (k + 1)) (k + 1) (v - 2 ^ k)
+golomb_more k v h a = let e : 13 - k ≡ suc (13 - suc k) = omega arith in let o : k + 1 ≡ suc k = omega arith in rw (e, o) (golomb_high (13 - suc k) k v a)
+
+pub golomb_close : (k v : ℕ) → k ≤ 12 → v < 2 ^ k → golomb_string (13 - k) k v ≡ at 1000 false ∷ number_string k v
+golomb_close k v h a = let e : 13 - k ≡ suc (13 - suc k) = omega arith in rw e (golomb_low (13 - suc k) k v a)
+
+pub doubled : (k : ℕ) → 2 ^ (k + 1) ≡ 2 ^ k + 2 ^ k
+doubled k = let o : k + 1 ≡ suc k = omega arith in rw o (omega (arith, pow-suc 2 k))
+
+pub minus1_zero : (f o : ℕ) → minus1_string f o 0 ≡ at f false ∷ []
+unfolding minus1_string
+minus1_zero f o = refl
+
+pub minus1_small : (f o m : ℕ) → 0 < m → m ≤ 13 → minus1_string f o m ≡ at f true ∷ ones_string o 13 (m - 1)
+unfolding minus1_string
+minus1_small f o zero h k = absurd (omega arith)
+minus1_small f o (suc m) h k = let e : nat_lt m 13 ≡ true = grind (arith, nat_tests) in let d : suc m - 1 ≡ m = omega arith in rw (e, append-nil, d) refl
+
+pub minus1_large : (f o m : ℕ) → 13 < m → minus1_string f o m ≡ at f true ∷ (ones_string o 13 (m - 1) ++ golomb_string 13 0 (m - 14))
+unfolding minus1_string
+minus1_large f o zero k = absurd (omega arith)
+minus1_large f o (suc m) k = let e : nat_lt m 13 ≡ false = grind (arith, nat_tests) in let d : suc m - 1 ≡ m = omega arith in let g : suc m - 14 ≡ m - 13 = omega arith in rw (e, d, g) refl
+
+-- ---- strings of elements, by the tests that their writers make
+
+pub whole_without : (inc mode chroma : ℕ) (ac : Bool) → chroma ≡ 0 →
+    intra_type_string inc (Whole mode chroma ac) ≡ at (3 + inc) true ∷ at 276 false ∷ at 6 ac ∷ at 7 false ∷ at 9 (mode / 2 == 1) ∷ at 10 (mode % 2 == 1) ∷ []
+unfolding intra_type_string
+whole_without inc mode zero ac h = refl
+whole_without inc mode (suc c) ac h = absurd (omega (arith, h))
+
+pub whole_with : (inc mode chroma : ℕ) (ac : Bool) → 0 < chroma → chroma < 3 →
+    intra_type_string inc (Whole mode chroma ac) ≡ at (3 + inc) true ∷ at 276 false ∷ at 6 ac ∷ at 7 true ∷ at 8 (chroma == 2) ∷ at 9 (mode / 2 == 1) ∷ at 10 (mode % 2 == 1) ∷ []
+unfolding intra_type_string
+whole_with inc mode zero ac h k = absurd (omega (arith, h))
+whole_with inc mode (suc zero) ac h k = refl
+whole_with inc mode (suc (suc zero)) ac h k = refl
+whole_with inc mode (suc (suc (suc c))) ac h k = absurd (omega (arith, k))
+
+pub chroma_mode_zero : (inc mode : ℕ) → mode ≤ 0 → chroma_mode_string inc mode ≡ at (64 + inc) (nat_lt 0 mode) ∷ []
+unfolding chroma_mode_string
+chroma_mode_zero inc zero h = refl
+chroma_mode_zero inc (suc m) h = absurd (omega (arith, h))
+
+pub chroma_mode_more : (inc mode : ℕ) → 0 < mode → mode ≤ 3 → chroma_mode_string inc mode ≡ at (64 + inc) (nat_lt 0 mode) ∷ ones_string 67 2 (mode - 1)
+unfolding chroma_mode_string ones_string
+chroma_mode_more inc zero h k = absurd (omega (arith, h))
+chroma_mode_more inc (suc zero) h k = refl
+chroma_mode_more inc (suc (suc zero)) h k = refl
+chroma_mode_more inc (suc (suc (suc zero))) h k = refl
+chroma_mode_more inc (suc (suc (suc (suc m)))) h k = absurd (omega (arith, k))
+
+pub chroma_pattern_zero : (first second n : ℕ) → n ≤ 0 → chroma_pattern_string first second n ≡ at (77 + first) (nat_lt 0 n) ∷ []
+unfolding chroma_pattern_string
+chroma_pattern_zero first second zero h = refl
+chroma_pattern_zero first second (suc m) h = absurd (omega (arith, h))
+
+pub chroma_pattern_more : (first second n : ℕ) → 0 < n → n ≤ 2 → chroma_pattern_string first second n ≡ at (77 + first) (nat_lt 0 n) ∷ at (81 + second) (nat_lt 1 n) ∷ []
+unfolding chroma_pattern_string
+chroma_pattern_more first second zero h k = absurd (omega (arith, h))
+chroma_pattern_more first second (suc zero) h k = refl
+chroma_pattern_more first second (suc (suc zero)) h k = refl
+chroma_pattern_more first second (suc (suc (suc n))) h k = absurd (omega (arith, k))
+
+delta_bits : (inc n : ℕ) → n ≤ 6 → string (delta_at inc) [] (unary (suc (suc n))) ≡ at (60 + inc) true ∷ at 62 true ∷ ones_string 63 8 n
+unfolding ones_string
+delta_bits inc zero h = refl
+delta_bits inc (suc zero) h = refl
+delta_bits inc (suc (suc zero)) h = refl
+delta_bits inc (suc (suc (suc zero))) h = refl
+delta_bits inc (suc (suc (suc (suc zero)))) h = refl
+delta_bits inc (suc (suc (suc (suc (suc zero))))) h = refl
+delta_bits inc (suc (suc (suc (suc (suc (suc zero)))))) h = refl
+delta_bits inc (suc (suc (suc (suc (suc (suc (suc n))))))) h = absurd (omega (arith, h))
+
+pub delta_zero : (inc n : ℕ) (d : ℤ) → n ≡ mapped d → n ≡ 0 → qp_delta_string inc d ≡ at (60 + inc) false ∷ []
+unfolding qp_delta_string
+delta_zero inc n d e h = rw (sym e ∙ h) refl
+
+pub delta_one : (inc n : ℕ) (d : ℤ) → n ≡ mapped d → 0 < n → n ≤ 1 → qp_delta_string inc d ≡ at (60 + inc) true ∷ at 62 (nat_lt 1 n) ∷ []
+unfolding qp_delta_string
+delta_one inc n d e h k = let o : n ≡ 1 = omega (arith, h, k) in rw (sym e, o) refl
+
+pub delta_more : (inc n : ℕ) (d : ℤ) → n ≡ mapped d → 1 < n → n ≤ 8 → qp_delta_string inc d ≡ at (60 + inc) true ∷ at 62 (nat_lt 1 n) ∷ ones_string 63 8 (n - 2)
+unfolding qp_delta_string
+delta_more inc n d e h k =
+    let s : mapped d ≡ suc (suc (n - 2)) = omega (arith, e, h) in
+    let t : nat_lt 1 n ≡ true = grind (arith, nat_tests) in
+    rw (s, t) (delta_bits inc (n - 2) (omega (arith, k)))
