@@ -3,3 +3,4 @@ pub mod Numbers
 pub mod Elements
 pub mod Levels
 pub mod Rows
+pub mod Inter

@@ -4,7 +4,7 @@ use Rattle.std.proofs.lemmas.Bool.{ltb-false}
 use borrow.Author.Tests.{ltb-true}
 use Rattle.std.proofs.Math.Nat.{pow-suc}
 use Rattle.spec_syntax.specs.Syntax.{at, Walks}
-use Rattle.spec_syntax.specs.Numbers.{ones, ones_string, number, number_string, golomb, golomb_string}
+use Rattle.spec_syntax.specs.Numbers.{ones, ones_string, number, number_string, golomb, golomb_string, prefix, prefix_string}
 use Rattle.spec_syntax.proofs.Walks.{walks_map_to}
 
 pub walks_ones : (c n v : ℕ) → Walks (ones c n) (ones_string c n v) (min v n)
@@ -44,3 +44,9 @@ walks_golomb (suc n) k v h = go (nat_lt v (2 ^ k)) refl (λ w m. walks_golomb n 
         let le : 2 ^ k ≤ v = ltb-false _ _ e in
         let same : suc k + n ≡ k + suc n = omega arith in
         (refl, walks_map_to (golomb n (suc k)) (λ v. 2 ^ k + v) (golomb_string n (suc k) (v - 2 ^ k)) (v - 2 ^ k) v (ih (v - 2 ^ k) (rw (same, doubled k) (omega arith))) (omega arith))
+
+pub walks_prefix_bits : (ctx : ℕ → ℕ) (i n v : ℕ) → Walks (prefix ctx i n) (prefix_string ctx i n v) (min v n)
+unfolding prefix prefix_string
+walks_prefix_bits ctx i zero v = omega arith
+walks_prefix_bits ctx i (suc n) zero = (refl, omega arith)
+walks_prefix_bits ctx i (suc n) (suc v) = (refl, walks_map_to (prefix ctx (suc i) n) (λ k. suc k) (prefix_string ctx (suc i) n v) (min v n) (min (suc v) (suc n)) (walks_prefix_bits ctx (suc i) n v) (omega arith))

@@ -2,3 +2,4 @@ pub mod Syntax
 pub mod Numbers
 pub mod Elements
 pub mod Levels
+pub mod Inter

@@ -21,6 +21,11 @@ abbrev pub low_first : ℕ → ℕ → List Bool
 low_first zero v = []
 low_first (suc n) v = (v % 2 == 1) ∷ low_first n (v / 2)
 
+-- bits as they are written in a table: so many digits, each 0 or 1
+abbrev pub text : ℕ → ℕ → List Bool
+text zero v = []
+text (suc n) v = (v / 10 ^ n % 10 == 1) ∷ text n v
+
 -- ---- as bins, with their readers
 
 -- truncated unary, each bin of one context
@@ -57,3 +62,15 @@ golomb (suc n) k = do
 unfoldable pub golomb_string : ℕ → ℕ → ℕ → List Bin
 golomb_string zero k v = []
 golomb_string (suc n) k v = elim (nat_lt v (2 ^ k)) [ true ↦ at 1000 false ∷ number_string k v | false ↦ at 1000 true ∷ golomb_string n (suc k) (v - 2 ^ k) ]
+
+-- truncated unary, the context of each bin by its number
+unfoldable pub prefix : (ℕ → ℕ) → ℕ → ℕ → Syntax ℕ
+prefix ctx i zero = done 0
+prefix ctx i (suc n) = do
+  b ← bin (ctx i)
+  elim b [ false ↦ done 0 | true ↦ prefix ctx (suc i) n >>= λ k. done (suc k) ]
+
+unfoldable pub prefix_string : (ℕ → ℕ) → ℕ → ℕ → ℕ → List Bin
+prefix_string ctx i zero v = []
+prefix_string ctx i (suc n) zero = at (ctx i) false ∷ []
+prefix_string ctx i (suc n) (suc v) = at (ctx i) true ∷ prefix_string ctx (suc i) n v

@@ -6,6 +6,7 @@ ghost use Rattle.std.specs.Prelude.{◌≡◌, ℕ, ◌<◌, ◌≤◌, ◌++◌
 ghost use Rattle.spec_syntax.specs.declared.Bin.{Bin};
 ghost use Rattle.spec_syntax.specs.Syntax.{Syntax, Reads, ReadsAhead, StandsAlone, flag, flag_string};
 ghost use Rattle.spec_syntax.specs.Elements.{IntraType, IsIntraType, IsDelta, intra_type, intra_type_string, mode_rem, mode_rem_string, chroma_mode, chroma_mode_string, luma_pattern, luma_pattern_string, chroma_pattern, chroma_pattern_string, qp_delta, qp_delta_string};
+ghost use Rattle.spec_syntax.specs.Inter.{PType, IsPType, p_type, p_type_string, BType, IsBType, b_type, b_type_string, Use, sub_type, sub_type_string, ref_index, ref_index_string, IsDifference, mvd, mvd_string};
 ghost use Rattle.spec_syntax.specs.Levels.{minus1, minus1_string};
 
 /// A bin of the arithmetic code.
@@ -47,4 +48,13 @@ pub fn strings_are_read_back()
     ensures chroma_pattern { (first : ℕ) (second : ℕ) (pattern : ℕ) → pattern < 3 → Reads (chroma_pattern first second) (chroma_pattern_string first second pattern) pattern }
     ensures qp_delta { (inc : ℕ) (delta : ℤ) → IsDelta delta → Reads (qp_delta inc) (qp_delta_string inc delta) delta }
     ensures level { (first : ℕ) (others : ℕ) (m : ℕ) → m ≤ 8190 → Reads (minus1 first others) (minus1_string first others m) m }
+{}
+
+/// The same for the elements that P and B slices add.
+pub fn inter_strings_are_read_back()
+    ensures p_type { (t : PType) → IsPType t → Reads p_type (p_type_string t) t }
+    ensures b_type { (inc : ℕ) (t : BType) → IsBType t → Reads (b_type inc) (b_type_string inc t) t }
+    ensures sub_type { (u : Use) → Reads sub_type (sub_type_string u) u }
+    ensures ref_index { (inc : ℕ) (index : ℕ) → index < 4 → Reads (ref_index inc) (ref_index_string inc index) index }
+    ensures mvd { (vertical : Bool) (inc : ℕ) (d : ℤ) → IsDifference d → Reads (mvd vertical inc) (mvd_string vertical inc d) d }
 {}
