@@ -6,6 +6,8 @@
 mod levels;
 mod macroblock;
 mod push;
+#[cfg(test)]
+mod tests;
 
 pub use levels::{bins_coded, bins_last, bins_level, bins_sign, bins_significant};
 pub use macroblock::{
