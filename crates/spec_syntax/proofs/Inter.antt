@@ -3,10 +3,11 @@ use Rattle.std.specs.Prelude.{nat_lt, nat_abs, min, ◌==◌, ℤ, pos, negsuc}
 use Rattle.std.proofs.lemmas.Bool.{ltb-false}
 use Rattle.std.proofs.lemmas.Bool.Decides.{nat_tests}
 use borrow.Author.Tests.{ltb-true}
+use Rattle.spec_syntax.specs.declared.ListUse.{ListUse}
 use Rattle.spec_syntax.specs.Syntax.{done, ◌>>=◌, Walks, Reads}
 use Rattle.spec_syntax.specs.Numbers.{prefix, prefix_string, golomb, golomb_string}
 use Rattle.spec_syntax.specs.Elements.{IntraType, NxN, Pcm, Whole, IsIntraType}
-use Rattle.spec_syntax.specs.Inter.{PType, BType, Use, IsPType, IsBType, L0, L1, Bi, p_type, p_type_string, b_type, b_type_string, sub_type, sub_type_string, ref_index, ref_index_string, mvd, mvd_string, mvd_at, with_sign, sign_string, IsDifference}
+use Rattle.spec_syntax.specs.Inter.{PType, BType, IsPType, IsBType, p_type, p_type_string, b_type, b_type_string, sub_type, sub_type_string, ref_index, ref_index_string, mvd, mvd_string, mvd_at, with_sign, sign_string, IsDifference}
 use Rattle.spec_syntax.proofs.Walks.{walks_then, walks_map_to}
 use Rattle.spec_syntax.proofs.Numbers.{walks_prefix_bits, walks_golomb}
 use Rattle.spec_syntax.proofs.Elements.{below_4}
@@ -69,40 +70,40 @@ walks_b : (inc : ℕ) (t : BType) → IsBType t → WalksB inc t
 unfolding b_type b_type_string WalksB
 walks_b inc BType.Direct h = assumption refl
 walks_b inc BType.Four h = assumption refl
-walks_b inc (BType.One L0) h = assumption refl
-walks_b inc (BType.One L1) h = assumption refl
-walks_b inc (BType.One Bi) h = assumption refl
-walks_b inc (BType.Rows L0 L0) h = assumption refl
-walks_b inc (BType.Rows L0 L1) h = assumption refl
-walks_b inc (BType.Rows L0 Bi) h = assumption refl
-walks_b inc (BType.Rows L1 L0) h = assumption refl
-walks_b inc (BType.Rows L1 L1) h = assumption refl
-walks_b inc (BType.Rows L1 Bi) h = assumption refl
-walks_b inc (BType.Rows Bi L0) h = assumption refl
-walks_b inc (BType.Rows Bi L1) h = assumption refl
-walks_b inc (BType.Rows Bi Bi) h = assumption refl
-walks_b inc (BType.Columns L0 L0) h = assumption refl
-walks_b inc (BType.Columns L0 L1) h = assumption refl
-walks_b inc (BType.Columns L0 Bi) h = assumption refl
-walks_b inc (BType.Columns L1 L0) h = assumption refl
-walks_b inc (BType.Columns L1 L1) h = assumption refl
-walks_b inc (BType.Columns L1 Bi) h = assumption refl
-walks_b inc (BType.Columns Bi L0) h = assumption refl
-walks_b inc (BType.Columns Bi L1) h = assumption refl
-walks_b inc (BType.Columns Bi Bi) h = assumption refl
+walks_b inc (BType.One ListUse.L0) h = assumption refl
+walks_b inc (BType.One ListUse.L1) h = assumption refl
+walks_b inc (BType.One ListUse.Bi) h = assumption refl
+walks_b inc (BType.Rows ListUse.L0 ListUse.L0) h = assumption refl
+walks_b inc (BType.Rows ListUse.L0 ListUse.L1) h = assumption refl
+walks_b inc (BType.Rows ListUse.L0 ListUse.Bi) h = assumption refl
+walks_b inc (BType.Rows ListUse.L1 ListUse.L0) h = assumption refl
+walks_b inc (BType.Rows ListUse.L1 ListUse.L1) h = assumption refl
+walks_b inc (BType.Rows ListUse.L1 ListUse.Bi) h = assumption refl
+walks_b inc (BType.Rows ListUse.Bi ListUse.L0) h = assumption refl
+walks_b inc (BType.Rows ListUse.Bi ListUse.L1) h = assumption refl
+walks_b inc (BType.Rows ListUse.Bi ListUse.Bi) h = assumption refl
+walks_b inc (BType.Columns ListUse.L0 ListUse.L0) h = assumption refl
+walks_b inc (BType.Columns ListUse.L0 ListUse.L1) h = assumption refl
+walks_b inc (BType.Columns ListUse.L0 ListUse.Bi) h = assumption refl
+walks_b inc (BType.Columns ListUse.L1 ListUse.L0) h = assumption refl
+walks_b inc (BType.Columns ListUse.L1 ListUse.L1) h = assumption refl
+walks_b inc (BType.Columns ListUse.L1 ListUse.Bi) h = assumption refl
+walks_b inc (BType.Columns ListUse.Bi ListUse.L0) h = assumption refl
+walks_b inc (BType.Columns ListUse.Bi ListUse.L1) h = assumption refl
+walks_b inc (BType.Columns ListUse.Bi ListUse.Bi) h = assumption refl
 walks_b inc (BType.Intra t) h = walks_b_intra inc t h
 
 pub reads_b_type : (inc : ℕ) (t : BType) → IsBType t → Reads (b_type inc) (b_type_string inc t) t
 unfolding WalksB
 reads_b_type inc t h = record { walk = walks_b inc t h }
 
-walks_sub : (u : Use) → Walks sub_type (sub_type_string u) u
+walks_sub : (u : ListUse) → Walks sub_type (sub_type_string u) u
 unfolding sub_type sub_type_string
-walks_sub L0 = assumption refl
-walks_sub L1 = assumption refl
-walks_sub Bi = assumption refl
+walks_sub ListUse.L0 = assumption refl
+walks_sub ListUse.L1 = assumption refl
+walks_sub ListUse.Bi = assumption refl
 
-pub reads_sub_type : (u : Use) → Reads sub_type (sub_type_string u) u
+pub reads_sub_type : (u : ListUse) → Reads sub_type (sub_type_string u) u
 reads_sub_type u = record { walk = walks_sub u }
 
 walks_ref : (inc n : ℕ) → n < 4 → Walks (ref_index inc) (ref_index_string inc n) n

@@ -1,18 +1,47 @@
 -- The elements of the macroblock layer that P and B slices add: the bits of each value (ITU-T H.264, clause 9.3.2), and the context of each bin (clause 9.3.3.1, table 9-39).
-use Rattle.std.specs.Prelude.{ℕ, zero, suc, ◌+◌, ◌-◌, ◌≤◌, ◌^◌, ◌==◌, Bool, true, false, cond, nat_lt, min, List, [], ◌∷◌, ◌++◌, map, get_or, nat_abs, ℤ, pos, negsuc}
+use Rattle.std.specs.Prelude.{◌≡◌, ℕ, zero, suc, ◌+◌, ◌-◌, ◌*◌, ◌<◌, ◌≤◌, ◌^◌, ◌==◌, Bool, true, false, not, cond, nat_lt, min, ◌||◌, List, [], ◌∷◌, ◌++◌, map, get_or, nat_abs, ℤ, pos, negsuc}
+use Rattle.enc_tables.specs.declared.records.SliceKind.{SliceKind}
+use Rattle.enc_tables.specs.declared.records.MbKind.{MbKind}
+use Rattle.enc_tables.specs.declared.records.MbRecord.{MbRecord}
 use Rattle.enc_tables.specs.declared.records.Motion.{Motion}
 use Rattle.spec_syntax.specs.declared.Bin.{Bin}
-use Rattle.spec_syntax.specs.Syntax.{Syntax, done, ask, ◌>>=◌, at}
+use Rattle.spec_syntax.specs.declared.ListUse.{ListUse}
+use Rattle.spec_syntax.specs.Syntax.{Syntax, done, nothing, ask, ◌>>=◌, bin, at, flag_string}
 use Rattle.spec_syntax.specs.Numbers.{unary, text, prefix, prefix_string, golomb, golomb_string}
-use Rattle.spec_syntax.specs.Elements.{IntraType, IsIntraType, intra_types, type_bits, string, one_of, with_bits, numbers}
+use Rattle.spec_syntax.specs.Elements.{IntraType, IsIntraType, intra_types, intra_type_of, intra_type_string, is_intra, type_bits, string, one_of, with_bits, numbers}
+
+-- ---- which macroblocks occur in slices of a kind, beside the skipped ones
+
+abbrev pub is_p : MbKind → Bool
+is_p MbKind.P16 = true
+is_p MbKind.P16x8 = true
+is_p MbKind.P8x16 = true
+is_p MbKind.P8x8 = true
+is_p _ = false
+
+abbrev pub is_b : MbKind → Bool
+is_b MbKind.B16 = true
+is_b MbKind.B16x8 = true
+is_b MbKind.B8x16 = true
+is_b MbKind.B8x8 = true
+is_b MbKind.BDirect = true
+is_b _ = false
+
+abbrev pub occurs_in : SliceKind → MbKind → Bool
+occurs_in SliceKind.I kind = is_intra kind
+occurs_in SliceKind.P kind = is_intra kind || is_p kind
+occurs_in SliceKind.B kind = is_intra kind || is_b kind
+
+abbrev pub has_inter : SliceKind → Bool
+has_inter SliceKind.I = false
+has_inter SliceKind.P = true
+has_inter SliceKind.B = true
 
 -- ---- mb_skip_flag
 
-abbrev pub skip_p : ℕ → ℕ
-skip_p inc = 11 + inc
-
-abbrev pub skip_b : ℕ → ℕ
-skip_b inc = 24 + inc
+abbrev pub skip_at : SliceKind → ℕ → ℕ
+skip_at SliceKind.B inc = 24 + inc
+skip_at _ inc = 11 + inc
 
 -- ---- intra types behind the prefix of P and B slices
 
@@ -23,6 +52,9 @@ suffix_at from (a ∷ b ∷ []) = from + 1
 suffix_at from (a ∷ b ∷ c ∷ []) = from + 2
 suffix_at from (a ∷ b ∷ c ∷ true ∷ []) = from + 2
 suffix_at from (a ∷ b ∷ c ∷ d ∷ before) = from + 3
+
+unfoldable pub suffix_string : ℕ → IntraType → List Bin
+suffix_string from t = string (suffix_at from) [] (type_bits t)
 
 -- ---- mb_type in P slices (tables 7-13 and 9-37)
 
@@ -62,17 +94,11 @@ p_type_string t = string p_at [] (p_bits t)
 
 -- ---- mb_type in B slices (tables 7-14 and 9-37)
 
--- which lists a partition is predicted from
-pub data Use : Type 0 where
-  L0 : Use
-  L1 : Use
-  Bi : Use
-
 pub data BType : Type 0 where
   Direct : BType
-  One : Use → BType
-  Rows : Use → Use → BType
-  Columns : Use → Use → BType
+  One : ListUse → BType
+  Rows : ListUse → ListUse → BType
+  Columns : ListUse → ListUse → BType
   Four : BType
   Intra : IntraType → BType
 
@@ -80,33 +106,33 @@ abbrev pub IsBType : BType → Type 0
 IsBType (BType.Intra t) = IsIntraType t
 IsBType _ = Unit {0}
 
-abbrev pub rows_bits : Use → Use → List Bool
-rows_bits L0 L0 = text 6 110001
-rows_bits L1 L1 = text 6 110011
-rows_bits L0 L1 = text 6 110101
-rows_bits L1 L0 = text 6 110111
-rows_bits L0 Bi = text 7 1110000
-rows_bits L1 Bi = text 7 1110010
-rows_bits Bi L0 = text 7 1110100
-rows_bits Bi L1 = text 7 1110110
-rows_bits Bi Bi = text 7 1111000
+abbrev pub rows_bits : ListUse → ListUse → List Bool
+rows_bits ListUse.L0 ListUse.L0 = text 6 110001
+rows_bits ListUse.L1 ListUse.L1 = text 6 110011
+rows_bits ListUse.L0 ListUse.L1 = text 6 110101
+rows_bits ListUse.L1 ListUse.L0 = text 6 110111
+rows_bits ListUse.L0 ListUse.Bi = text 7 1110000
+rows_bits ListUse.L1 ListUse.Bi = text 7 1110010
+rows_bits ListUse.Bi ListUse.L0 = text 7 1110100
+rows_bits ListUse.Bi ListUse.L1 = text 7 1110110
+rows_bits ListUse.Bi ListUse.Bi = text 7 1111000
 
-abbrev pub columns_bits : Use → Use → List Bool
-columns_bits L0 L0 = text 6 110010
-columns_bits L1 L1 = text 6 110100
-columns_bits L0 L1 = text 6 110110
-columns_bits L1 L0 = text 6 111110
-columns_bits L0 Bi = text 7 1110001
-columns_bits L1 Bi = text 7 1110011
-columns_bits Bi L0 = text 7 1110101
-columns_bits Bi L1 = text 7 1110111
-columns_bits Bi Bi = text 7 1111001
+abbrev pub columns_bits : ListUse → ListUse → List Bool
+columns_bits ListUse.L0 ListUse.L0 = text 6 110010
+columns_bits ListUse.L1 ListUse.L1 = text 6 110100
+columns_bits ListUse.L0 ListUse.L1 = text 6 110110
+columns_bits ListUse.L1 ListUse.L0 = text 6 111110
+columns_bits ListUse.L0 ListUse.Bi = text 7 1110001
+columns_bits ListUse.L1 ListUse.Bi = text 7 1110011
+columns_bits ListUse.Bi ListUse.L0 = text 7 1110101
+columns_bits ListUse.Bi ListUse.L1 = text 7 1110111
+columns_bits ListUse.Bi ListUse.Bi = text 7 1111001
 
 abbrev pub b_bits : BType → List Bool
 b_bits BType.Direct = text 1 0
-b_bits (BType.One L0) = text 3 100
-b_bits (BType.One L1) = text 3 101
-b_bits (BType.One Bi) = text 6 110000
+b_bits (BType.One ListUse.L0) = text 3 100
+b_bits (BType.One ListUse.L1) = text 3 101
+b_bits (BType.One ListUse.Bi) = text 6 110000
 b_bits (BType.Rows u v) = rows_bits u v
 b_bits (BType.Columns u v) = columns_bits u v
 b_bits BType.Four = text 6 111111
@@ -120,13 +146,13 @@ b_at inc (a ∷ false ∷ []) = 32
 b_at inc (true ∷ true ∷ true ∷ true ∷ false ∷ true ∷ before) = suffix_at 32 before
 b_at inc (a ∷ b ∷ c ∷ before) = 32
 
-abbrev pub uses : List Use
-uses = L0 ∷ L1 ∷ Bi ∷ []
+abbrev pub uses : List ListUse
+uses = ListUse.L0 ∷ ListUse.L1 ∷ ListUse.Bi ∷ []
 
 abbrev pub b_types : List BType
 b_types = (BType.Direct ∷ BType.Four ∷ []) ++ map (λ u. BType.One u) uses
-    ++ map (λ v. BType.Rows L0 v) uses ++ map (λ v. BType.Rows L1 v) uses ++ map (λ v. BType.Rows Bi v) uses
-    ++ map (λ v. BType.Columns L0 v) uses ++ map (λ v. BType.Columns L1 v) uses ++ map (λ v. BType.Columns Bi v) uses
+    ++ map (λ v. BType.Rows ListUse.L0 v) uses ++ map (λ v. BType.Rows ListUse.L1 v) uses ++ map (λ v. BType.Rows ListUse.Bi v) uses
+    ++ map (λ v. BType.Columns ListUse.L0 v) uses ++ map (λ v. BType.Columns ListUse.L1 v) uses ++ map (λ v. BType.Columns ListUse.Bi v) uses
     ++ map (λ t. BType.Intra t) intra_types
 
 unfoldable pub b_type : ℕ → Syntax BType
@@ -140,10 +166,10 @@ b_type_string inc t = string (b_at inc) [] (b_bits t)
 abbrev pub sub_type_p : ℕ
 sub_type_p = 21
 
-abbrev pub sub_bits : Use → List Bool
-sub_bits L0 = text 3 100
-sub_bits L1 = text 3 101
-sub_bits Bi = text 5 11000
+abbrev pub sub_bits : ListUse → List Bool
+sub_bits ListUse.L0 = text 3 100
+sub_bits ListUse.L1 = text 3 101
+sub_bits ListUse.Bi = text 5 11000
 
 abbrev pub sub_at : List Bool → ℕ
 sub_at [] = 36
@@ -151,10 +177,10 @@ sub_at (a ∷ []) = 37
 sub_at (a ∷ true ∷ []) = 38
 sub_at (a ∷ b ∷ before) = 39
 
-unfoldable pub sub_type : Syntax Use
+unfoldable pub sub_type : Syntax ListUse
 sub_type = one_of 5 sub_at [] (with_bits sub_bits uses)
 
-unfoldable pub sub_type_string : Use → List Bin
+unfoldable pub sub_type_string : ListUse → List Bin
 sub_type_string u = string sub_at [] (sub_bits u)
 
 -- ---- the types of records
@@ -164,8 +190,58 @@ is_used (pos n) = true
 is_used (negsuc n) = false
 
 -- which lists a block's motion uses: a reference below 0 is none
-abbrev pub use_of : Motion → Use
-use_of m = cond (is_used (get_or m.refs 0 (pos 0))) (cond (is_used (get_or m.refs 1 (pos 0))) Bi L0) L1
+abbrev pub use_from : Bool → Bool → ListUse
+use_from true true = ListUse.Bi
+use_from true false = ListUse.L0
+use_from false second = ListUse.L1
+
+abbrev pub first_used : Motion → Bool
+first_used m = is_used (get_or m.refs 0 (pos 0))
+
+abbrev pub second_used : Motion → Bool
+second_used m = is_used (get_or m.refs 1 (pos 0))
+
+abbrev pub use_of : Motion → ListUse
+use_of m = use_from (first_used m) (second_used m)
+
+abbrev pub no_motion : Motion
+no_motion = record { refs = []; vectors = [] }
+
+abbrev pub block_use : MbRecord → ℕ → ListUse
+block_use mb block = use_of (get_or mb.motion block no_motion)
+
+abbrev pub p_type_by : MbKind → IntraType → PType
+p_type_by MbKind.P16 t = PType.One
+p_type_by MbKind.P16x8 t = PType.Rows
+p_type_by MbKind.P8x16 t = PType.Columns
+p_type_by MbKind.P8x8 t = PType.Four
+p_type_by _ t = PType.Intra t
+
+abbrev pub p_type_of : MbRecord → PType
+p_type_of mb = p_type_by mb.kind (intra_type_of mb)
+
+-- by the uses of the 8x8 blocks 0, 1 and 2
+abbrev pub b_type_by : MbKind → ListUse → ListUse → ListUse → IntraType → BType
+b_type_by MbKind.BDirect u v w t = BType.Direct
+b_type_by MbKind.B16 u v w t = BType.One u
+b_type_by MbKind.B16x8 u v w t = BType.Rows u w
+b_type_by MbKind.B8x16 u v w t = BType.Columns u v
+b_type_by MbKind.B8x8 u v w t = BType.Four
+b_type_by _ u v w t = BType.Intra t
+
+abbrev pub b_type_of : MbRecord → BType
+b_type_of mb = b_type_by mb.kind (block_use mb 0) (block_use mb 1) (block_use mb 2) (intra_type_of mb)
+
+-- mb_type of a record
+abbrev pub type_string : SliceKind → ℕ → MbRecord → List Bin
+type_string SliceKind.I inc mb = intra_type_string inc (intra_type_of mb)
+type_string SliceKind.P inc mb = p_type_string (p_type_of mb)
+type_string SliceKind.B inc mb = b_type_string inc (b_type_of mb)
+
+-- sub_mb_type of an 8x8 block
+abbrev pub sub_string : SliceKind → Motion → List Bin
+sub_string SliceKind.B m = sub_type_string (use_of m)
+sub_string _ m = flag_string sub_type_p true
 
 -- ---- ref_idx: unary, at most 3
 

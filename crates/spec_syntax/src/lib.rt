@@ -4,9 +4,10 @@
 
 ghost use Rattle.std.specs.Prelude.{◌≡◌, ℕ, ◌<◌, ◌≤◌, ◌++◌, [], Bool, List, ℤ};
 ghost use Rattle.spec_syntax.specs.declared.Bin.{Bin};
+ghost use Rattle.spec_syntax.specs.declared.ListUse.{ListUse};
 ghost use Rattle.spec_syntax.specs.Syntax.{Syntax, Reads, ReadsAhead, StandsAlone, flag, flag_string};
 ghost use Rattle.spec_syntax.specs.Elements.{IntraType, IsIntraType, IsDelta, intra_type, intra_type_string, mode_rem, mode_rem_string, chroma_mode, chroma_mode_string, luma_pattern, luma_pattern_string, chroma_pattern, chroma_pattern_string, qp_delta, qp_delta_string};
-ghost use Rattle.spec_syntax.specs.Inter.{PType, IsPType, p_type, p_type_string, BType, IsBType, b_type, b_type_string, Use, sub_type, sub_type_string, ref_index, ref_index_string, IsDifference, mvd, mvd_string};
+ghost use Rattle.spec_syntax.specs.Inter.{PType, IsPType, p_type, p_type_string, BType, IsBType, b_type, b_type_string, sub_type, sub_type_string, ref_index, ref_index_string, IsDifference, mvd, mvd_string};
 ghost use Rattle.spec_syntax.specs.Levels.{minus1, minus1_string};
 
 /// A bin of the arithmetic code.
@@ -16,6 +17,17 @@ pub struct Bin {
     pub ctx: u16,
     /// The bin's value.
     pub bit: bool,
+}
+
+/// Which reference lists a partition is predicted from (table 7-14).
+#[derive(Clone, Copy, Debug, PartialEq, Eq)]
+pub enum ListUse {
+    /// List 0.
+    L0,
+    /// List 1.
+    L1,
+    /// Both lists.
+    Bi,
 }
 
 /// What is added for the significance flag at a place of an 8x8 block (ITU-T H.264, table 9-43, frame coded).
@@ -54,7 +66,7 @@ pub fn strings_are_read_back()
 pub fn inter_strings_are_read_back()
     ensures p_type { (t : PType) → IsPType t → Reads p_type (p_type_string t) t }
     ensures b_type { (inc : ℕ) (t : BType) → IsBType t → Reads (b_type inc) (b_type_string inc t) t }
-    ensures sub_type { (u : Use) → Reads sub_type (sub_type_string u) u }
+    ensures sub_type { (u : ListUse) → Reads sub_type (sub_type_string u) u }
     ensures ref_index { (inc : ℕ) (index : ℕ) → index < 4 → Reads (ref_index inc) (ref_index_string inc index) index }
     ensures mvd { (vertical : Bool) (inc : ℕ) (d : ℤ) → IsDifference d → Reads (mvd vertical inc) (mvd_string vertical inc d) d }
 {}
