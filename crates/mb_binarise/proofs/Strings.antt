@@ -1,5 +1,6 @@
 use Rattle.std.proofs.Common.{◌≡◌, ℕ, zero, suc, ◌+◌, ◌-◌, ◌/◌, ◌%◌, ◌^◌, ◌<◌, ◌≤◌, Bool, true, false, List, [], ◌∷◌, ◌++◌, refl, sym, ap, ◌∙◌, arith, append_assoc}
 use Rattle.std.specs.Prelude.{nat_lt, ◌==◌, ℤ}
+use Rattle.spec_syntax.specs.Inter.{ref_index_string}
 use Rattle.spec_syntax.specs.Elements.{Whole, intra_type_string, chroma_mode_string, chroma_pattern_string, mapped, qp_delta_string, delta_at, string}
 use Rattle.spec_syntax.specs.Numbers.{unary}
 use Rattle.std.proofs.lemmas.Bool.Decides.{nat_tests}
@@ -8,7 +9,7 @@ use Rattle.std.proofs.lemmas.Bool.{cases_lt}
 use Rattle.std.proofs.Common.{inl, inr}
 use Rattle.std.proofs.Math.Nat.{pow-suc}
 use Rattle.spec_syntax.specs.Syntax.{at}
-use Rattle.spec_syntax.specs.Numbers.{ones_string, number_string, golomb_string}
+use Rattle.spec_syntax.specs.Numbers.{ones_string, number_string, golomb_string, prefix_string}
 use Rattle.spec_syntax.specs.Levels.{minus1_string}
 
 pub ones_more : (c n v k : ℕ) → k < n → k < v → ones_string c (n - k) (v - k) ≡ at c true ∷ ones_string c (n - (k + 1)) (v - (k + 1))
@@ -47,17 +48,25 @@ pub golomb_low : (n k v : ℕ) → v < 2 ^ k → golomb_string (suc n) k v ≡ a
 unfolding golomb_string
 golomb_low n k v h = let e : nat_lt v (2 ^ k) ≡ true = grind (arith, nat_tests) in rw (e, golomb_string) refl
 
-pub not_twelve : (k rest : ℕ) → k ≤ 12 → 2 ^ k ≤ rest → rest + 2 ^ k < 8192 → k + 1 ≤ 12
-not_twelve k rest h a b = elim (cases_lt k 12) [
-  | inl lt ↦ omega arith
-  | inr le ↦ let e : k ≡ 12 = omega arith in let c = rw e at a in let d = rw e at b in absurd (omega (arith, c, d))
+-- where another one can still follow
+pub not_last : (n k rest : ℕ) → k < n → 2 ^ k ≤ rest → rest + 2 ^ k < 2 ^ n → k + 1 < n
+not_last n k rest h a b = elim (cases_lt (k + 1) n) [
+  | inl lt ↦ lt
+  | inr le ↦ let e : n ≡ suc k = omega arith in let d = rw e at b in absurd (omega (arith, a, d, pow-suc 2 k))
 ]
 
-pub golomb_more : (k v : ℕ) → k ≤ 12 → 2 ^ k ≤ v → golomb_string (13 - k) k v ≡ at 1000 true ∷ golomb_string (13 - (k + 1)) (k + 1) (v - 2 ^ k)
-golomb_more k v h a = let e : 13 - k ≡ suc (13 - suc k) = omega arith in let o : k + 1 ≡ suc k = omega arith in rw (e, o) (golomb_high (13 - suc k) k v a)
+pub order_start : (k n : ℕ) → k + n - k ≡ n
+order_start k n = omega arith
 
-pub golomb_close : (k v : ℕ) → k ≤ 12 → v < 2 ^ k → golomb_string (13 - k) k v ≡ at 1000 false ∷ number_string k v
-golomb_close k v h a = let e : 13 - k ≡ suc (13 - suc k) = omega arith in rw e (golomb_low (13 - suc k) k v a)
+pub order_below : (k n v : ℕ) → v + 2 ^ k < 2 ^ (k + n) → k < k + n
+order_below k zero v h = let e : k + 0 ≡ k = omega arith in let g = rw e at h in absurd (omega (arith, g))
+order_below k (suc n) v h = omega arith
+
+pub golomb_more : (n k v : ℕ) → k < n → 2 ^ k ≤ v → golomb_string (n - k) k v ≡ at 1000 true ∷ golomb_string (n - (k + 1)) (k + 1) (v - 2 ^ k)
+golomb_more n k v h a = let e : n - k ≡ suc (n - suc k) = omega arith in let o : k + 1 ≡ suc k = omega arith in rw (e, o) (golomb_high (n - suc k) k v a)
+
+pub golomb_close : (n k v : ℕ) → k < n → v < 2 ^ k → golomb_string (n - k) k v ≡ at 1000 false ∷ number_string k v
+golomb_close n k v h a = let e : n - k ≡ suc (n - suc k) = omega arith in rw e (golomb_low (n - suc k) k v a)
 
 pub doubled : (k : ℕ) → 2 ^ (k + 1) ≡ 2 ^ k + 2 ^ k
 doubled k = let o : k + 1 ≡ suc k = omega arith in rw o (omega (arith, pow-suc 2 k))
@@ -142,3 +151,31 @@ delta_more inc n d e h k =
     let s : mapped d ≡ suc (suc (n - 2)) = omega (arith, e, h) in
     let t : nat_lt 1 n ≡ true = grind (arith, nat_tests) in
     rw (s, t) (delta_bits inc (n - 2) (omega (arith, k)))
+
+pub ref_zero : (inc n : ℕ) → n ≡ 0 → ref_index_string inc n ≡ at (54 + inc) false ∷ []
+unfolding ref_index_string
+ref_zero inc n h = rw h refl
+
+pub ref_one : (inc n : ℕ) → 0 < n → n ≤ 1 → ref_index_string inc n ≡ at (54 + inc) true ∷ at 58 (nat_lt 1 n) ∷ []
+unfolding ref_index_string
+ref_one inc n h k = let o : n ≡ 1 = omega (arith, h, k) in rw o refl
+
+pub ref_more : (inc n : ℕ) → 1 < n → n ≤ 3 → ref_index_string inc n ≡ at (54 + inc) true ∷ at 58 (nat_lt 1 n) ∷ ones_string 59 3 (n - 2)
+unfolding ref_index_string ones_string
+ref_more inc zero h k = absurd (omega (arith, h))
+ref_more inc (suc zero) h k = absurd (omega (arith, h))
+ref_more inc (suc (suc zero)) h k = refl
+ref_more inc (suc (suc (suc zero))) h k = refl
+ref_more inc (suc (suc (suc (suc n)))) h k = absurd (omega (arith, k))
+
+pub prefix_more : (ctx : ℕ → ℕ) (n v k : ℕ) → k < n → k < v → prefix_string ctx k (n - k) (v - k) ≡ at (ctx k) true ∷ prefix_string ctx (k + 1) (n - (k + 1)) (v - (k + 1))
+unfolding prefix_string
+prefix_more ctx n v k h j = let e : n - k ≡ suc (n - (k + 1)) = omega arith in let f : v - k ≡ suc (v - (k + 1)) = omega arith in let o : k + 1 ≡ suc k = omega arith in rw (e, f, o) refl
+
+pub prefix_close : (ctx : ℕ → ℕ) (n v k : ℕ) → k < n → v ≤ k → prefix_string ctx k (n - k) (v - k) ≡ at (ctx k) false ∷ []
+unfolding prefix_string
+prefix_close ctx n v k h j = let e : n - k ≡ suc (n - (k + 1)) = omega arith in let f : v - k ≡ 0 = omega arith in rw (e, f) refl
+
+pub prefix_end : (ctx : ℕ → ℕ) (n v k : ℕ) → n ≤ k → prefix_string ctx k (n - k) (v - k) ≡ []
+unfolding prefix_string
+prefix_end ctx n v k h = let e : n - k ≡ 0 = omega arith in rw e refl

@@ -50,7 +50,8 @@ fn push_number(bins: &mut ArrayVec<Bin, 48>, count: u16, value: u32)
     requires below { value < 2 ^ count }
     requires small { count ≤ 16 }
     requires room { array_vec_len bins.old + count ≤ 48 }
-    ensures { bins.new.items ≡ bins.old.items ++ number_string count value }
+    ensures items { bins.new.items ≡ bins.old.items ++ number_string count value }
+    ensures len { array_vec_len bins.new ≡ array_vec_len bins.old + count }
 {
     let mut left = count;
     let mut rest = value;
@@ -72,13 +73,15 @@ fn push_number(bins: &mut ArrayVec<Bin, 48>, count: u16, value: u32)
     }
 }
 
-/// Exp-Golomb of order 0 by bypass (the suffix of clause 9.3.2.3).
-pub(crate) fn push_golomb(bins: &mut ArrayVec<Bin, 48>, value: u32)
-    requires below { value + 1 < 2 ^ 13 }
-    requires room { array_vec_len bins.old ≤ 20 }
-    ensures { bins.new.items ≡ bins.old.items ++ golomb_string 13 0 value }
+// Exp-Golomb of an order by bypass, of at most 13 ones (the suffix of clause 9.3.2.3).
+fn push_golomb_from(bins: &mut ArrayVec<Bin, 48>, most: u16, order: u16, value: u32)
+    requires below { value + 2 ^ order < 2 ^ (order + most) }
+    requires small { order + most ≤ 15 }
+    requires room { array_vec_len bins.old + most + order + most ≤ 48 }
+    ensures items { bins.new.items ≡ bins.old.items ++ golomb_string most order value }
+    ensures len { array_vec_len bins.new ≤ array_vec_len bins.old + most + order + most }
 {
-    let mut k: u16 = 0;
+    let mut k: u16 = order;
     let mut rest = value;
     while rest >= power(k) {
         bins.push(Bin {
@@ -93,4 +96,23 @@ pub(crate) fn push_golomb(bins: &mut ArrayVec<Bin, 48>, value: u32)
         bit: false,
     });
     push_number(bins, k, rest);
+}
+
+/// Exp-Golomb of order 0.
+pub(crate) fn push_golomb(bins: &mut ArrayVec<Bin, 48>, value: u32)
+    requires below { value ≤ 8176 }
+    requires room { array_vec_len bins.old ≤ 20 }
+    ensures { bins.new.items ≡ bins.old.items ++ golomb_string 13 0 value }
+{
+    push_golomb_from(bins, 13, 0, value);
+}
+
+/// Exp-Golomb of order 3.
+pub(crate) fn push_golomb3(bins: &mut ArrayVec<Bin, 48>, value: u32)
+    requires below { value ≤ 32759 }
+    requires room { array_vec_len bins.old ≤ 9 }
+    ensures items { bins.new.items ≡ bins.old.items ++ golomb_string 12 3 value }
+    ensures len { array_vec_len bins.new ≤ 47 }
+{
+    push_golomb_from(bins, 12, 3, value);
 }

@@ -30,8 +30,8 @@ loop-left-preserved c =
       left = omega arith;
     }
 
-pub returns : goal.returns
-returns c =
+pub returns-clause-items : goal.returns-clause-items
+returns-clause-items c =
     let z : c.loop-left.left ≡ 0 = omega arith in
     let w = rw z at c.loop-left.invariant.written in
     sym (append-nil c.loop-left.bins.items) ∙ ap (λ (ys : List Bin). c.loop-left.bins.items ++ ys) (sym (number_end c.loop-left.rest)) ∙ w
