@@ -1,13 +1,14 @@
 use Rattle.std.proofs.Common.{◌≡◌, ℕ, zero, suc, ◌+◌, ◌-◌, ◌/◌, ◌%◌, ◌^◌, ◌<◌, ◌≤◌, Bool, true, false, List, [], ◌∷◌, ◌++◌, refl, sym, ap, ◌∙◌, arith, append_assoc}
 use Rattle.std.specs.Prelude.{nat_lt, ◌==◌, ℤ}
-use Rattle.spec_syntax.specs.Inter.{ref_index_string}
-use Rattle.spec_syntax.specs.Elements.{Whole, intra_type_string, chroma_mode_string, chroma_pattern_string, mapped, qp_delta_string, delta_at, string}
+use Rattle.spec_syntax.specs.Inter.{ref_index_string, PType, p_type_string, p_at, BType, b_type_string, b_at, suffix_at, suffix_string}
+use Rattle.spec_syntax.specs.Elements.{IntraType, type_bits, Whole, intra_type_string, chroma_mode_string, chroma_pattern_string, mapped, qp_delta_string, delta_at, string}
 use Rattle.spec_syntax.specs.Numbers.{unary}
 use Rattle.std.proofs.lemmas.Bool.Decides.{nat_tests}
 use Rattle.std.proofs.lemmas.List.{append-nil}
 use Rattle.std.proofs.lemmas.Bool.{cases_lt}
 use Rattle.std.proofs.Common.{inl, inr}
 use Rattle.std.proofs.Math.Nat.{pow-suc}
+use Rattle.spec_syntax.specs.declared.Bin.{Bin}
 use Rattle.spec_syntax.specs.Syntax.{at}
 use Rattle.spec_syntax.specs.Numbers.{ones_string, number_string, golomb_string, prefix_string}
 use Rattle.spec_syntax.specs.Levels.{minus1_string}
@@ -179,3 +180,36 @@ prefix_close ctx n v k h j = let e : n - k ≡ suc (n - (k + 1)) = omega arith i
 pub prefix_end : (ctx : ℕ → ℕ) (n v k : ℕ) → n ≤ k → prefix_string ctx k (n - k) (v - k) ≡ []
 unfolding prefix_string
 prefix_end ctx n v k h = let e : n - k ≡ 0 = omega arith in rw e refl
+
+pub append_two : (xs : List Bin) (a b : Bin) → (xs ++ a ∷ []) ++ b ∷ [] ≡ xs ++ a ∷ b ∷ []
+append_two xs a b = append_assoc xs (a ∷ []) (b ∷ [])
+
+suffix_bits : (from mode chroma : ℕ) (ac : Bool) → chroma < 3 →
+    suffix_string from (Whole mode chroma ac) ≡ at from true ∷ at 276 false ∷ at (from + 1) ac ∷ (ones_string (from + 2) 2 chroma ++ at (from + 3) (mode / 2 == 1) ∷ at (from + 3) (mode % 2 == 1) ∷ [])
+unfolding suffix_string ones_string
+suffix_bits from mode zero ac h = refl
+suffix_bits from mode (suc zero) ac h = refl
+suffix_bits from mode (suc (suc zero)) ac h = refl
+suffix_bits from mode (suc (suc (suc c))) ac h = absurd (omega (arith, h))
+
+-- what is appended one after another
+pub suffix_whole : (xs : List Bin) (from mode chroma : ℕ) (ac : Bool) → chroma < 3 →
+    (((((xs ++ at from true ∷ []) ++ at 276 false ∷ []) ++ at (from + 1) ac ∷ []) ++ ones_string (from + 2) 2 chroma) ++ at (from + 3) (mode / 2 == 1) ∷ []) ++ at (from + 3) (mode % 2 == 1) ∷ []
+    ≡ xs ++ suffix_string from (Whole mode chroma ac)
+suffix_whole xs from mode chroma ac h = rw (suffix_bits from mode chroma ac h, append_assoc, append_assoc, append_assoc, append_assoc, append_assoc) refl
+
+behind_p : (before bits : List Bool) → string p_at (true ∷ before) bits ≡ string (suffix_at 17) before bits
+behind_p before [] = refl
+behind_p before (b ∷ bits) = ap (λ (ys : List Bin). at (suffix_at 17 before) b ∷ ys) (behind_p (before ++ b ∷ []) bits)
+
+pub p_intra : (t : IntraType) → p_type_string (PType.Intra t) ≡ at 14 true ∷ suffix_string 17 t
+unfolding p_type_string suffix_string
+p_intra t = ap (λ (ys : List Bin). at 14 true ∷ ys) (behind_p [] (type_bits t))
+
+behind_b : (inc : ℕ) (before bits : List Bool) → string (b_at inc) (true ∷ true ∷ true ∷ true ∷ false ∷ true ∷ before) bits ≡ string (suffix_at 32) before bits
+behind_b inc before [] = refl
+behind_b inc before (b ∷ bits) = ap (λ (ys : List Bin). at (suffix_at 32 before) b ∷ ys) (behind_b inc (before ++ b ∷ []) bits)
+
+pub b_intra : (inc : ℕ) (t : IntraType) → b_type_string inc (BType.Intra t) ≡ at (27 + inc) true ∷ at 30 true ∷ at 31 true ∷ at 32 true ∷ at 32 false ∷ at 32 true ∷ suffix_string 32 t
+unfolding b_type_string suffix_string
+b_intra inc t = ap (λ (ys : List Bin). at (27 + inc) true ∷ at 30 true ∷ at 31 true ∷ at 32 true ∷ at 32 false ∷ at 32 true ∷ ys) (behind_b inc [] (type_bits t))

@@ -9,6 +9,7 @@ mod macroblock;
 mod push;
 #[cfg(test)]
 mod tests;
+mod types;
 
 pub use inter::{bins_mvd, bins_ref, bins_skip, bins_sub_type};
 pub use levels::{bins_coded, bins_last, bins_level, bins_sign, bins_significant};

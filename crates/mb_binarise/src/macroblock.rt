@@ -2,17 +2,15 @@
 
 ghost use Rattle.std.specs.Prelude.{◌≡◌, ℕ, ◌+◌, ◌-◌, ◌*◌, ◌<◌, ◌≤◌, nat_abs, get_or, IsTrue};
 ghost use Rattle.arrayvec.specs.ArrayVec.{array_vec_len};
-ghost use Rattle.enc_tables.specs.declared.records.SliceKind.{SliceKind};
 ghost use Rattle.spec_syntax.specs.Syntax.{flag_string};
+ghost use Rattle.spec_syntax.specs.Inter.{occurs_in, type_string};
 ghost use Rattle.spec_syntax.specs.Elements.{IntraType, IsIntraType, is_intra, intra_type_of, intra_type_string, mode_flag, mode_rem_string, chroma_mode_string, luma_pattern_string, inc_of, chroma_pattern_string, transform_flag, mapped, qp_delta_string, end_of_slice};
 
-use crate::push::{one, push_ones};
+use crate::push::{TERMINATE, one, push_ones};
+use crate::types::{type_in_b, type_in_p};
 use arrayvec::ArrayVec;
 use enc_tables::{MbKind, MbRecord, SliceKind};
 use spec_syntax::Bin;
-
-/// The context number of bins before termination.
-const TERMINATE: u16 = 276;
 
 /// end_of_slice_flag.
 pub fn bins_end(last: bool) -> ArrayVec<Bin, 48>
@@ -21,15 +19,26 @@ pub fn bins_end(last: bool) -> ArrayVec<Bin, 48>
     one(TERMINATE, last)
 }
 
-/// mb_type of an intra macroblock in an I slice (tables 7-11 and 9-36). Of Intra 16x16 it tells the mode, the chroma
-/// pattern and whether the luma pattern isn't 0.
+/// mb_type of a macroblock that isn't skipped. Of Intra 16x16 it tells the mode, the chroma pattern and whether the luma
+/// pattern isn't 0; in B, which lists each partition uses. In P `inc` isn't used.
 pub fn bins_type(kind: SliceKind, inc: u8, mb: &MbRecord) -> ArrayVec<Bin, 48>
-    requires kind { kind ≡ SliceKind.I }
+    requires kind { IsTrue (occurs_in kind mb.now.kind) }
+    requires range { IsIntraType (intra_type_of mb.now) }
+    ensures { result.items ≡ type_string kind inc mb.now }
+{
+    match kind {
+        SliceKind::I => type_in_i(inc, mb),
+        SliceKind::P => type_in_p(mb),
+        SliceKind::B => type_in_b(inc, mb),
+    }
+}
+
+// mb_type in an I slice (tables 7-11 and 9-36).
+fn type_in_i(inc: u8, mb: &MbRecord) -> ArrayVec<Bin, 48>
     requires intra { IsTrue (is_intra mb.now.kind) }
     requires range { IsIntraType (intra_type_of mb.now) }
     ensures { result.items ≡ intra_type_string inc (intra_type_of mb.now) }
 {
-    let _ = kind;
     match mb.kind {
         MbKind::Intra16 => whole(inc, mb.modes[0], mb.chroma_cbp, mb.luma_cbp != 0),
         MbKind::Pcm => pcm(inc),
