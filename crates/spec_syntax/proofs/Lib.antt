@@ -4,3 +4,4 @@ pub mod Elements
 pub mod Levels
 pub mod Rows
 pub mod Inter
+pub mod Blocks

@@ -3,3 +3,5 @@ pub mod Numbers
 pub mod Elements
 pub mod Levels
 pub mod Inter
+pub mod Blocks
+pub mod Sequences

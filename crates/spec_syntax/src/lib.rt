@@ -2,12 +2,14 @@
 //! (clause 9.3.3.1), the readers that ask for the bins, and the laws that these read the strings back.
 #![tactic(auto)]
 
-ghost use Rattle.std.specs.Prelude.{◌≡◌, ℕ, ◌<◌, ◌≤◌, ◌++◌, [], Bool, List, ℤ};
+ghost use Rattle.std.specs.Prelude.{◌≡◌, ℕ, ◌<◌, ◌≤◌, ◌+◌, Bool, List, ℤ, length, map, IsFalse};
+ghost use Rattle.std.specs.List.{AllByRecursion};
 ghost use Rattle.spec_syntax.specs.declared.Bin.{Bin};
 ghost use Rattle.spec_syntax.specs.declared.ListUse.{ListUse};
 ghost use Rattle.spec_syntax.specs.Syntax.{Syntax, Reads, ReadsAhead, StandsAlone, flag, flag_string};
 ghost use Rattle.spec_syntax.specs.Elements.{IntraType, IsIntraType, IsDelta, intra_type, intra_type_string, mode_rem, mode_rem_string, chroma_mode, chroma_mode_string, luma_pattern, luma_pattern_string, chroma_pattern, chroma_pattern_string, qp_delta, qp_delta_string};
 ghost use Rattle.spec_syntax.specs.Inter.{PType, IsPType, p_type, p_type_string, BType, IsBType, b_type, b_type_string, sub_type, sub_type_string, ref_index, ref_index_string, IsDifference, mvd, mvd_string};
+ghost use Rattle.spec_syntax.specs.Blocks.{IsLevel, none, nonzero, block, block_string, some_levels, some_levels_string};
 ghost use Rattle.spec_syntax.specs.Levels.{minus1, minus1_string};
 
 /// A bin of the arithmetic code.
@@ -69,4 +71,11 @@ pub fn inter_strings_are_read_back()
     ensures sub_type { (u : ListUse) → Reads sub_type (sub_type_string u) u }
     ensures ref_index { (inc : ℕ) (index : ℕ) → index < 4 → Reads (ref_index inc) (ref_index_string inc index) index }
     ensures mvd { (vertical : Bool) (inc : ℕ) (d : ℤ) → IsDifference d → Reads (mvd vertical inc) (mvd_string vertical inc d) d }
+{}
+
+/// The levels of a residual block are read back from their string: of a block with a coded flag, and of one that is known to
+/// have a level.
+pub fn blocks_are_read_back()
+    ensures coded { (category : ℕ) (inc : ℕ) (n : ℕ) (levels : List ℤ) → length levels ≡ n + 1 → AllByRecursion IsLevel levels → Reads (block category inc n) (block_string category inc n levels) levels }
+    ensures some { (category : ℕ) (n : ℕ) (levels : List ℤ) → length levels ≡ n + 1 → IsFalse (none (map nonzero levels)) → AllByRecursion IsLevel levels → Reads (some_levels category n) (some_levels_string category n levels) levels }
 {}
