@@ -1,0 +1,7 @@
+pub mod Walks
+pub mod Numbers
+pub mod Elements
+pub mod Levels
+pub mod Rows
+pub mod Inter
+pub mod Blocks
