@@ -1,14 +1,14 @@
-use Rattle.std.proofs.Common.{◌≡◌, ℕ, zero, suc, ◌+◌, ◌-◌, ◌^◌, ◌*◌, ◌<◌, ◌≤◌, Bool, true, false, List, [], ◌∷◌, ◌++◌, refl, sym, ap, subst, ◌∙◌, arith, ltb, cond, length, replicate, map}
-use Rattle.std.specs.Prelude.{nat_lt, min, nat_abs, ℤ, pos, negsuc, ◌==◌}
+use Rattle.std.proofs.Common.{◌≡◌, ℕ, zero, suc, ◌<◌, Bool, true, false, List, [], ◌∷◌, ◌++◌, refl, sym, ap, subst, ◌∙◌, arith, length, replicate, map}
+use Rattle.std.specs.Prelude.{ℤ, pos, negsuc}
 use Rattle.std.specs.List.{AllByRecursion}
 use Rattle.std.proofs.lemmas.List.{length-map, append-nil}
 use Rattle.std.proofs.Common.{append_assoc}
 use Rattle.spec_syntax.specs.declared.Bin.{Bin}
-use Rattle.spec_syntax.specs.Syntax.{Syntax, done, nothing, ask, ◌>>=◌, bin, at, Walks, Reads}
+use Rattle.spec_syntax.specs.Syntax.{Syntax, done, ◌>>=◌, bin, at, Walks, Reads}
 use Rattle.spec_syntax.specs.Levels.{significant_at, last_at, coded_at, first_at, others_at, minus1, minus1_string}
 use Rattle.spec_syntax.specs.Blocks.{significance, significance_string, none, nonzero, levels, level_string, levels_string, block, block_string, some_levels, some_levels_string, signed, IsLevel, above_one, equal_one}
 use Rattle.spec_syntax.specs.Sequences.{sequence, sequence_string, ReadsEach, where_present, string_where}
-use Rattle.spec_syntax.proofs.Walks.{walks_then, walks_map, walks_map_to, reads_then, reads_done}
+use Rattle.spec_syntax.proofs.Walks.{walks_then, walks_map, reads_then, reads_done}
 use Rattle.spec_syntax.proofs.Levels.{walks_minus1}
 
 none_all : (fs : List Bool) (n : ℕ) → length fs ≡ n → none fs ≡ true → replicate n false ≡ fs

@@ -1,8 +1,8 @@
 -- A residual block (ITU-T H.264, clause 7.3.5.3.3): which places have a level, and then the levels from the last to the first.
-use Rattle.std.specs.Prelude.{◌≡◌, ℕ, zero, suc, ◌≤◌, Bool, true, false, List, [], ◌∷◌, ◌++◌, map, replicate, nat_abs, ℤ, pos, negsuc}
+use Rattle.std.specs.Prelude.{ℕ, zero, suc, ◌≤◌, Bool, true, false, List, [], ◌∷◌, ◌++◌, map, replicate, nat_abs, ℤ, pos, negsuc}
 use Rattle.spec_syntax.specs.declared.Bin.{Bin}
-use Rattle.spec_syntax.specs.Syntax.{Syntax, done, ask, ◌>>=◌, bin, at}
-use Rattle.spec_syntax.specs.Levels.{coded_at, significant_at, last_at, first_at, others_at, minus1, minus1_string, sign_at}
+use Rattle.spec_syntax.specs.Syntax.{Syntax, done, ◌>>=◌, bin, at}
+use Rattle.spec_syntax.specs.Levels.{coded_at, significant_at, last_at, first_at, others_at, minus1, minus1_string}
 
 -- a level whose size is at most 8191
 abbrev pub IsLevel : ℤ → Type 0

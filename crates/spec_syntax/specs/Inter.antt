@@ -1,12 +1,12 @@
 -- The elements of the macroblock layer that P and B slices add: the bits of each value (ITU-T H.264, clause 9.3.2), and the context of each bin (clause 9.3.3.1, table 9-39).
-use Rattle.std.specs.Prelude.{◌≡◌, ℕ, zero, suc, ◌+◌, ◌-◌, ◌*◌, ◌<◌, ◌≤◌, ◌^◌, ◌==◌, Bool, true, false, not, cond, nat_lt, min, ◌||◌, List, [], ◌∷◌, ◌++◌, map, get_or, nat_abs, ℤ, pos, negsuc}
+use Rattle.std.specs.Prelude.{ℕ, zero, suc, ◌+◌, ◌-◌, ◌≤◌, ◌^◌, ◌==◌, Bool, true, false, cond, nat_lt, min, ◌||◌, List, [], ◌∷◌, ◌++◌, map, get_or, nat_abs, ℤ, pos, negsuc}
 use Rattle.enc_tables.specs.declared.records.SliceKind.{SliceKind}
 use Rattle.enc_tables.specs.declared.records.MbKind.{MbKind}
 use Rattle.enc_tables.specs.declared.records.MbRecord.{MbRecord}
 use Rattle.enc_tables.specs.declared.records.Motion.{Motion}
 use Rattle.spec_syntax.specs.declared.Bin.{Bin}
 use Rattle.spec_syntax.specs.declared.ListUse.{ListUse}
-use Rattle.spec_syntax.specs.Syntax.{Syntax, done, nothing, ask, ◌>>=◌, bin, at, flag_string}
+use Rattle.spec_syntax.specs.Syntax.{Syntax, done, ask, ◌>>=◌, at, flag_string}
 use Rattle.spec_syntax.specs.Numbers.{unary, text, prefix, prefix_string, golomb, golomb_string}
 use Rattle.spec_syntax.specs.Elements.{IntraType, IsIntraType, intra_types, intra_type_of, intra_type_string, is_intra, type_bits, string, one_of, with_bits, numbers}
 

@@ -1,4 +1,4 @@
-use Rattle.std.proofs.Common.{◌≡◌, ℕ, ◌+◌, arith, refl, ◌∙◌}
+use Rattle.std.proofs.Common.{arith}
 use Rattle.spec_syntax.proofs.Blocks.{reads_block_of, reads_some}
 use Rattle.spec_syntax.proofs.blocks_are_read_back.Goals as goal
 
