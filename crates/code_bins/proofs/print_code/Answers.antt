@@ -1,4 +1,4 @@
-use Rattle.std.proofs.Common.{◌≡◌, ◌%◌, ◌∙◌, ap, length, length-append}
+use Rattle.std.proofs.Common.{◌%◌, ◌∙◌, ap, length, length-append}
 use Rattle.spec_bits.specs.Golomb.{align_bits}
 use Rattle.spec_bits.proofs.Codes.{align_whole}
 use Rattle.bit_strings.specs.BitText.{BitText}
