@@ -1,5 +1,5 @@
 // The context of coded_block_flag (ITU-T H.264, clause 9.3.3.1.1.9).
-ghost use Rattle.std.specs.Prelude.{◌≡◌, ◌≤◌};
+ghost use Rattle.std.specs.Prelude.{◌≡◌, ◌≤◌, ◌+◌, ◌*◌, slice_range};
 ghost use Rattle.spec_contexts.specs.Near.{pointed};
 ghost use Rattle.spec_contexts.specs.Increments.{some_level, luma_levels, coded_flag, luma_dc_coded as luma_dc_coded_of, luma_coded as luma_coded_of, chroma_dc_coded as chroma_dc_coded_of, chroma_ac_coded as chroma_ac_coded_of, inc_luma as inc_luma_of, inc_luma_dc as inc_luma_dc_of, inc_chroma_dc as inc_chroma_dc_of, inc_chroma_ac as inc_chroma_ac_of, inc_coded as inc_coded_of};
 
@@ -45,7 +45,7 @@ fn chroma_dc_coded(mb: &MbRecord, component: u8) -> bool
     requires { component ≤ 1 }
     ensures { result ≡ chroma_dc_coded_of component mb.now }
 {
-    mb.chroma_cbp != 0 && has_level(&mb.chroma_dc[component as usize])
+    mb.chroma_cbp != 0 && has_chroma_dc_level(mb, component)
 }
 
 fn chroma_ac_coded(mb: &MbRecord, component: u8, block: u8) -> bool
@@ -53,7 +53,24 @@ fn chroma_ac_coded(mb: &MbRecord, component: u8, block: u8) -> bool
     requires block { block ≤ 3 }
     ensures { result ≡ chroma_ac_coded_of component block mb.now }
 {
-    mb.chroma_cbp == 2 && has_level(&mb.chroma_ac[component as usize][block as usize])
+    mb.chroma_cbp == 2 && has_chroma_ac_level(mb, component, block)
+}
+
+fn has_chroma_dc_level(mb: &MbRecord, component: u8) -> bool
+    requires { component ≤ 1 }
+    ensures { result ≡ some_level (slice_range mb.now.chroma_dc (4 * component) (4 * component + 4)) }
+{
+    let start = 4 * component as usize;
+    has_level(&mb.chroma_dc[start..start + 4])
+}
+
+fn has_chroma_ac_level(mb: &MbRecord, component: u8, block: u8) -> bool
+    requires component { component ≤ 1 }
+    requires block { block ≤ 3 }
+    ensures { result ≡ some_level (slice_range mb.now.chroma_ac (60 * component + 15 * block) (60 * component + 15 * block + 15)) }
+{
+    let start = 60 * component as usize + 15 * block as usize;
+    has_level(&mb.chroma_ac[start..start + 15])
 }
 
 // The flags of the neighbours of a block of `mb`.

@@ -1,6 +1,6 @@
 // Kinds of macroblocks (ITU-T H.264, tables 7-11, 7-13 and 7-14).
 ghost use Rattle.std.specs.Prelude.{◌≡◌};
-ghost use Rattle.spec_contexts.specs.Kinds.{is_pcm as pcm, is_nxn as nxn, is_16x16 as whole, is_intra as intra, is_skipped as skipped, is_direct as direct};
+ghost use Rattle.enc_tables.specs.Kinds.{is_pcm as pcm, is_nxn as nxn, is_16x16 as whole, is_intra as intra, is_skipped as skipped, is_direct as direct};
 
 use enc_tables::MbKind;
 

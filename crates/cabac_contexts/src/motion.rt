@@ -40,7 +40,7 @@ fn difference(mb: &MbRecord, list: u8, block: u8, vertical: bool) -> i16
     requires block { block ≤ 3 }
     ensures { result ≡ mvd_of mb.now list block vertical }
 {
-    let vector = mb.mvd[list as usize][block as usize];
+    let vector = mb.mvd[4 * list as usize + block as usize];
     if vertical { vector.y } else { vector.x }
 }
 

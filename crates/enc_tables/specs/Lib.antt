@@ -1,1 +1,5 @@
 pub mod Arithmetic
+pub mod Kinds
+pub mod Records
+pub mod Samples
+pub mod Steps

@@ -3,12 +3,16 @@
 
 mod arithmetic;
 mod contexts;
+mod filter;
 mod records;
 mod transform;
 
 pub use arithmetic::{NEXT_LPS, RANGE_LPS, lps_range, next_state};
 pub use contexts::{CONTEXT_PAIRS_I, CONTEXT_PAIRS_PB};
-pub use records::{CtxState, MbKind, MbRecord, Motion, PlanStep, SliceKind, Vector};
+pub use filter::{FILTER_ALPHA, FILTER_BETA, FILTER_TC0};
+pub use records::{
+    CtxState, MbKind, MbPlan, MbRecord, Motion, PartPlan, PlanStep, SliceKind, Vector,
+};
 pub use transform::{
     CHROMA_QP, CLASS4, CLASS8, FORWARD4, FORWARD8, HADAMARD2, HADAMARD4, MULTIPLIER4, MULTIPLIER8,
     SCALING4, SCALING8, ZIGZAG4, ZIGZAG8,

@@ -65,7 +65,8 @@ pub enum MbKind {
     BSkip,
 }
 
-/// All that the syntax says of one macroblock. A field that its type doesn't use is 0.
+/// All that the syntax says of one macroblock. A field that its type doesn't use is 0; an intra macroblock has motion that uses
+/// neither list.
 #[derive(Clone, Copy)]
 pub struct MbRecord {
     /// The macroblock's type.
@@ -78,8 +79,8 @@ pub struct MbRecord {
     pub chroma_mode: u8,
     /// The motion of the four 8x8 blocks.
     pub motion: [Motion; 4],
-    /// The written vector differences of the four 8x8 blocks, for each list.
-    pub mvd: [[Vector; 4]; 2],
+    /// The written vector differences: that of 8x8 block k in list l at 4l + k.
+    pub mvd: [Vector; 8],
     /// A bit for each 8x8 luma block with a level that isn't 0 (coded_block_pattern).
     pub luma_cbp: u8,
     /// 0: no chroma level; 1: DC levels alone; 2: AC levels too.
@@ -88,12 +89,13 @@ pub struct MbRecord {
     pub qp: u8,
     /// The DC levels of Intra16, in zigzag order.
     pub luma_dc: [i16; 16],
-    /// Luma levels: those of 4x4 block b in zigzag order at 16b, those of 8x8 block k at 64k.
+    /// Luma levels: those of 4x4 block b in zigzag order at 16b, those of 8x8 block k at 64k. Of Intra16 the first of the 16
+    /// places is 0, since the DC levels stand apart.
     pub luma: [i16; 256],
-    /// The DC levels of Cb and Cr.
-    pub chroma_dc: [[i16; 4]; 2],
-    /// The AC levels of Cb and Cr, in zigzag order, by 4x4 block.
-    pub chroma_ac: [[[i16; 15]; 4]; 2],
+    /// The DC levels: those of Cb at 0, those of Cr at 4.
+    pub chroma_dc: [i16; 8],
+    /// The AC levels in zigzag order: those of 4x4 block b of Cb at 15b, of Cr at 60 + 15b.
+    pub chroma_ac: [i16; 120],
 }
 
 /// The state of a context of the arithmetic coder (clause 9.3.1.1).
@@ -118,4 +120,30 @@ pub struct PlanStep {
     pub frame_num: u16,
     /// Its picture order count since the last IDR picture.
     pub poc: u16,
+}
+
+/// The best motion of a partition and its cost.
+#[derive(Clone, Copy, Debug, PartialEq, Eq)]
+pub struct PartPlan {
+    /// Reference indices and vectors.
+    pub motion: Motion,
+    /// The sum of absolute differences, and what is added for the references.
+    pub cost: u32,
+}
+
+/// What is planned for one macroblock before it is coded.
+#[derive(Clone, Copy)]
+pub struct MbPlan {
+    /// The mode of Intra16.
+    pub mode16: u8,
+    /// The modes of Intra8.
+    pub modes8: [u8; 4],
+    /// The modes of Intra4.
+    pub modes4: [u8; 16],
+    /// The intra chroma mode.
+    pub chroma_mode: u8,
+    /// The costs of Intra16, Intra8 and Intra4: sums of absolute luma differences.
+    pub intra: [u32; 3],
+    /// The nine partitions: 16x16; 16x8 upper and lower; 8x16 left and right; the four 8x8.
+    pub parts: [PartPlan; 9],
 }

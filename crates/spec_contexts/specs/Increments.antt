@@ -5,7 +5,8 @@ use Rattle.enc_tables.specs.declared.records.MbRecord.{MbRecord}
 use Rattle.enc_tables.specs.declared.records.MbKind.{MbKind}
 use Rattle.enc_tables.specs.declared.records.Motion.{Motion}
 use Rattle.enc_tables.specs.declared.records.Vector.{Vector}
-use Rattle.spec_contexts.specs.Kinds.{is_pcm, is_nxn, is_16x16, is_intra, is_skipped, is_direct}
+use Rattle.enc_tables.specs.Records.{zero_vector, no_motion}
+use Rattle.enc_tables.specs.Kinds.{is_pcm, is_nxn, is_16x16, is_intra, is_skipped, is_direct}
 use Rattle.spec_contexts.specs.Near.{left_holder2, above_holder2, left_block2, above_block2, left_holder4, above_holder4, left_block4, above_block4}
 
 -- ---- condTermFlagA and condTermFlagB together
@@ -83,9 +84,6 @@ inc_qp_delta last_delta = weight last_delta
 abbrev pub has_motion : MbKind → Bool
 has_motion kind = not (is_intra kind) && not (is_skipped kind) && not (is_direct kind)
 
-abbrev pub no_motion : Motion
-no_motion = record { refs = pos 0 ∷ pos 0 ∷ []; vectors = [] }
-
 -- the reference index of 8x8 block k in a list
 abbrev pub ref_of : MbRecord → ℕ → ℕ → ℤ
 ref_of mb list k = slice_index_or (slice_index_or mb.motion k no_motion).refs list (pos 0)
@@ -109,13 +107,10 @@ abbrev pub is_used : ℤ → Bool
 is_used (pos n) = true
 is_used (negsuc n) = false
 
-abbrev pub no_vector : Vector
-no_vector = record { x = pos 0; y = pos 0 }
-
 -- a component of the written difference of 8x8 block k
 abbrev pub mvd_of : MbRecord → ℕ → ℕ → Bool → ℤ
 mvd_of mb list k vertical =
-    (λ (v : Vector). if vertical then v.y else v.x) (slice_index_or (slice_index_or mb.mvd list []) k no_vector)
+    (λ (v : Vector). if vertical then v.y else v.x) (slice_index_or mb.mvd (4 * list + k) zero_vector)
 
 -- absMvdCompN: 0 where not available, intra, skipped, direct or without the list
 abbrev pub mvd_size : ℕ → ℕ → Bool → Option MbRecord → ℕ
@@ -180,11 +175,11 @@ luma_coded b n = bit_of n.luma_cbp (b / 4) && (n.transform8 || some_level (luma_
 
 -- 3: the DC levels of Cb or Cr
 abbrev pub chroma_dc_coded : ℕ → MbRecord → Bool
-chroma_dc_coded component n = not (n.chroma_cbp == 0) && some_level (slice_index_or n.chroma_dc component [])
+chroma_dc_coded component n = not (n.chroma_cbp == 0) && some_level (slice_range n.chroma_dc (4 * component) (4 * component + 4))
 
 -- 4: the AC levels of a block of Cb or Cr
 abbrev pub chroma_ac_coded : ℕ → ℕ → MbRecord → Bool
-chroma_ac_coded component b n = n.chroma_cbp == 2 && some_level (slice_index_or (slice_index_or n.chroma_ac component []) b [])
+chroma_ac_coded component b n = n.chroma_cbp == 2 && some_level (slice_range n.chroma_ac (60 * component + 15 * b) (60 * component + 15 * b + 15))
 
 abbrev pub inc_luma : MbRecord → Option MbRecord → Option MbRecord → ℕ → ℕ
 inc_luma mb left above b =

@@ -1,4 +1,3 @@
 pub mod States
-pub mod Kinds
 pub mod Near
 pub mod Increments
