@@ -1,0 +1,9 @@
+use Rattle.std.proofs.Common.{◌≡◌, ◌<◌, ℕ, pos, ◌-ℤ◌, length, get_or}
+use Rattle.spec_residual.specs.Blocks.{item}
+use Rattle.intra_coder.proofs.blocks.differences.Given as goal
+
+abbrev pub invariant-loop-k : goal.invariant-loop-k
+invariant-loop-k g l = record {
+  long : length l.out ≡ g.row.N;
+  done : (k : ℕ) → k < l.k → item l.out k ≡ pos (get_or l.source k 0) -ℤ pos (get_or l.prediction k 0);
+}

@@ -1,0 +1,5 @@
+//! Intra macroblocks: their levels, and their samples as a decoder builds them.
+#![tactic(auto)]
+
+mod blocks;
+mod parts;

@@ -1,0 +1,2 @@
+//! What a decoder builds of macroblock records, as definitions over planes of samples.
+#![tactic(auto)]
