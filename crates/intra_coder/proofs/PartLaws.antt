@@ -38,14 +38,15 @@ read_next p x y n j from k out part row inside wide more at_from at_k long is_ro
     let end : j * n + n ≤ n * n = before_end j n n more in
     let next : (j + 1) * n ≡ from + k = grind arith in
     let part_is : part ≡ take n (drop ((y + j) * p.width + x) (samples_of p)) =
-      is_part ∙ ap₂ (λ (m : ℕ) (r : List ℕ). take m (drop x r)) at_k is_row ∙ part_of_samples p (y + j) x n inside wide in
+    is_part ∙ ap₂ (λ (m : ℕ) (r : List ℕ). take m (drop x r)) at_k is_row ∙ part_of_samples p (y + j) x n inside wide in
     let wide_row : length row ≡ p.width = ap (λ (l : List ℕ). length l) is_row ∙ row_length p (y + j) inside in
-    let part_long : length part ≡ k = grind (arith, common_steps) in
-    (grind (arith, common_steps),
-     ap (λ (m : ℕ). take m (take from out ++ (part ++ drop k (drop from out)))) next
-     ∙ row_read out part (block_rows p.width x y n (samples_of p) j) from k (omega arith) part_long done
-     ∙ ap (λ (l : List ℕ). block_rows p.width x y n (samples_of p) j ++ l) part_is
-     ∙ sym (rows_more p.width x y n (samples_of p) j))
+    let part_long : length part ≡ k = grind (arith, common_steps) in (
+      grind (arith, common_steps),
+      ap (λ (m : ℕ). take m (take from out ++ (part ++ drop k (drop from out)))) next
+          ∙ row_read out part (block_rows p.width x y n (samples_of p) j) from k (omega arith) part_long done
+          ∙ ap (λ (l : List ℕ). block_rows p.width x y n (samples_of p) j ++ l) part_is
+          ∙ sym (rows_more p.width x y n (samples_of p) j),
+    )
 
 -- what stands behind a part of the first of two parts of a list
 behind : (xs : List ℕ) (m wide : ℕ) → m ≤ wide → wide ≤ length xs → drop m (take wide xs) ++ drop wide xs ≡ drop m xs

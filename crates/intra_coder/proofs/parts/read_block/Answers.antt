@@ -17,6 +17,6 @@ loop-j-preserved c =
     let k : c.loop-j.j * c.args.n + c.args.n - c.loop-j.j * c.args.n ≡ c.args.n = omega arith in
     let k' : c.args.x + c.args.n - c.args.x ≡ c.args.n = omega arith in
     let next = read_next c.args.plane.now c.args.x c.args.y c.args.n c.loop-j.j (c.loop-j.j * c.args.n) (c.loop-j.j * c.args.n + c.args.n - c.loop-j.j * c.args.n) c.loop-j.out c.copy_from_slice.new.self c.row-row.result.now
-        (omega (arith, c.requires.rows, c.loop-j-test.true)) c.requires.columns c.loop-j-test.true refl k c.loop-j.invariant.long c.row-row.ensures.value
-        (c.copy_from_slice.ensures.after ∙ ap (λ (m : ℕ). take m (drop c.args.x c.row-row.result.now)) (k' ∙ sym k)) c.loop-j.invariant.done in
+    (omega (arith, c.requires.rows, c.loop-j-test.true)) c.requires.columns c.loop-j-test.true refl k c.loop-j.invariant.long c.row-row.ensures.value
+    (c.copy_from_slice.ensures.after ∙ ap (λ (m : ℕ). take m (drop c.args.x c.row-row.result.now)) (k' ∙ sym k)) c.loop-j.invariant.done in
     record { long = next.0; done = next.1 }

@@ -23,6 +23,6 @@ loop-j-preserved c =
     record {
       shape = c.loop-j.invariant.shape;
       done = write_next c.args.plane.now c.loop-j.plane c.args.x c.args.y c.args.n c.loop-j.j (c.args.x + c.args.n - c.args.x) (c.loop-j.j * c.args.n + c.args.n - c.loop-j.j * c.args.n) c.args.block.now c.copy_from_slice.new.self c.row_mut-row.result.now
-        (omega (arith, c.requires.rows, c.loop-j-test.true, c.loop-j.invariant.shape.1)) (omega (arith, c.requires.columns, c.loop-j.invariant.shape.0)) c.loop-j.invariant.shape.0 k k' (omega (arith, end, c.requires.size))
-        c.row_mut-row.ensures.value c.copy_from_slice.ensures.after c.loop-j.invariant.done;
+          (omega (arith, c.requires.rows, c.loop-j-test.true, c.loop-j.invariant.shape.1)) (omega (arith, c.requires.columns, c.loop-j.invariant.shape.0)) c.loop-j.invariant.shape.0 k k' (omega (arith, end, c.requires.size))
+          c.row_mut-row.ensures.value c.copy_from_slice.ensures.after c.loop-j.invariant.done;
     }
