@@ -3,4 +3,5 @@
 
 mod blocks;
 mod luma;
+mod near;
 mod parts;
