@@ -1,0 +1,4 @@
+pub mod PartLaws
+pub mod BlockLaws
+pub mod NearLaws
+pub mod Gathered
