@@ -2,3 +2,4 @@ pub mod PartLaws
 pub mod BlockLaws
 pub mod NearLaws
 pub mod Gathered
+pub mod Standing
