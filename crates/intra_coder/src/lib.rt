@@ -3,5 +3,8 @@
 
 mod blocks;
 mod luma;
+mod luma4;
+mod luma8;
 mod near;
 mod parts;
+mod places;

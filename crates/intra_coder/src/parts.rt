@@ -43,3 +43,27 @@ pub fn write_block(plane: &mut Plane, x: u32, y: u32, n: u32, block: &[u8])
         row[from..to].copy_from_slice(&block[start..end]);
     }
 }
+
+/// The block of 4 by 4 samples at (`x`, `y`), row by row.
+#[inline(always)]
+pub fn block4_at(plane: &Plane, x: u32, y: u32) -> [u8; 16]
+    requires columns { x + 4 ≤ plane.now.width }
+    requires rows { y + 4 ≤ plane.now.height }
+    ensures { result ≡ block_at plane.now.width x y 4 (samples_of plane.now) }
+{
+    let mut block = [0u8; 16];
+    read_block(plane, x, y, 4, &mut block);
+    block
+}
+
+/// The block of 8 by 8 samples at (`x`, `y`), row by row.
+#[inline(always)]
+pub fn block8_at(plane: &Plane, x: u32, y: u32) -> [u8; 64]
+    requires columns { x + 8 ≤ plane.now.width }
+    requires rows { y + 8 ≤ plane.now.height }
+    ensures { result ≡ block_at plane.now.width x y 8 (samples_of plane.now) }
+{
+    let mut block = [0u8; 64];
+    read_block(plane, x, y, 8, &mut block);
+    block
+}
