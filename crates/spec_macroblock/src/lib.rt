@@ -5,6 +5,7 @@
 ghost use Rattle.std.specs.Prelude.{◌≡◌, ℕ, Bool, List, [], ◌∷◌, ◌++◌};
 ghost use Rattle.enc_tables.specs.declared.records.MbRecord.{MbRecord};
 ghost use Rattle.spec_syntax.specs.Syntax.{Reads};
+ghost use Rattle.spec_slice.specs.Decoding.{GoesOn};
 ghost use Rattle.spec_macroblock.specs.Near.{Near, has_delta, last_qp, last_has_delta};
 ghost use Rattle.spec_macroblock.specs.Macroblock.{macroblock};
 ghost use Rattle.spec_macroblock.specs.Strings.{macroblock_string};
@@ -14,6 +15,11 @@ ghost use Rattle.spec_macroblock.specs.Records.{IsRecord};
 /// whatever macroblocks are around it.
 pub fn macroblocks_are_read_back()
     ensures { (near : Near) (mb : MbRecord) → IsRecord near mb → Reads (macroblock near) (macroblock_string near mb) mb }
+{}
+
+/// No bin of such a macroblock ends the arithmetic code, so that end_of_slice_flag can follow it.
+pub fn macroblocks_go_on()
+    ensures { (near : Near) (mb : MbRecord) → IsRecord near mb → GoesOn (macroblock_string near mb) }
 {}
 
 /// What a macroblock leaves to the next one of its slice: its QP, and whether it has an mb_qp_delta that isn't 0.
