@@ -12,7 +12,7 @@ use Rattle.spec_contexts.specs.States.{pairs_of, start_states}
 use Rattle.spec_macroblock.specs.Near.{Near, near_in}
 use Rattle.spec_macroblock.specs.Macroblock.{macroblock}
 use Rattle.spec_macroblock.specs.Strings.{macroblock_string}
-use Rattle.spec_macroblock.specs.Records.{IsRecord}
+use Rattle.spec_macroblock.specs.Records.{NearModes, IsRecord}
 use Rattle.spec_reading.specs.Reader.{read}
 use Rattle.spec_reading.specs.HeadReaders.{idr_slice, idr_head}
 use Rattle.spec_slice.specs.Decoding.{decoded_from}
@@ -95,6 +95,11 @@ pub record IsIdrHead (h : SliceHead) : Type 0 where
 abbrev pub AreRecords : Format → SliceHead → List MbRecord → List MbRecord → Type 0
 AreRecords f h before [] = Unit {0}
 AreRecords f h before (mb ∷ rest) = IsRecord (near_of f h before) mb × AreRecords f h (before ++ mb ∷ []) rest
+
+-- what IsRecord asks of the macroblocks around
+pub record NeighboursHaveModes (near : Near) : Type 0 where
+  pub left : NearModes near.left
+  pub above : NearModes near.above
 
 pub record IsSlice (f : Format) (s : Slice) : Type 0 where
   pub head_fits : IsIdrHead s.head
