@@ -1,10 +1,10 @@
 -- Worked rows: values that were computed apart.
-use Rattle.std.specs.Prelude.{ℕ, ℤ, pos, negsuc, List, [], ◌∷◌, map, get_or, ◌≡◌, ◌+◌, ◌*◌, ◌%◌, ◌/◌}
+use Rattle.std.specs.Prelude.{ℕ, ℤ, pos, negsuc, List, [], ◌∷◌, map, ◌≡◌, ◌%◌, ◌/◌}
 use Rattle.std.proofs.Common.{refl}
 use Rattle.enc_tables.specs.declared.records.Vector.{Vector}
 use Rattle.spec_film.specs.Places.{sample_at}
 use Rattle.spec_inter.specs.Taps.{tap, half}
-use Rattle.spec_inter.specs.Luma.{firsts, seconds, quarter_of, about, inter_luma}
+use Rattle.spec_inter.specs.Luma.{firsts, seconds, inter_luma}
 use Rattle.spec_inter.specs.Chroma.{inter_chroma}
 
 -- the half sample between two samples 10 among samples 0

@@ -1,8 +1,6 @@
 -- Fractions at which the two samples are one.
-use Rattle.std.proofs.Common.{◌≡◌, ℕ, zero, suc, ◌+◌, ◌*◌, ◌%◌, ◌<◌, ◌≤◌, refl, arith, ap}
-use Rattle.picture_planes.specs.declared.plane.Plane.{Plane}
-use Rattle.spec_inter.specs.Luma.{firsts, seconds, first_of, second_of, position_of}
-use Rattle.subpel_filter.specs.Near.{position_at, near_at}
+use Rattle.std.proofs.Common.{◌≡◌, ℕ, zero, suc, ◌%◌, ◌<◌, refl, arith}
+use Rattle.spec_inter.specs.Luma.{firsts, seconds, first_of, second_of}
 
 pub even_pair : (x y : ℕ) → x < 4 → y < 4 → x % 2 ≡ 0 → y % 2 ≡ 0 → first_of x y ≡ second_of x y
 unfolding firsts seconds

@@ -1,16 +1,16 @@
 -- A filled margin gives each sample of the definition.
-use Rattle.std.proofs.Common.{◌≡◌, ℕ, ◌+◌, ◌-◌, ◌*◌, ◌/◌, ◌%◌, ◌<◌, ◌≤◌, refl, sym, ap, ap₂, ◌∙◌, arith, ℤ, pos, negsuc, ◌+ℤ◌, ◌-ℤ◌, ◌≤ℤ◌, w16, FitsSigned}
+use Rattle.std.proofs.Common.{◌≡◌, ℕ, ◌+◌, ◌*◌, ◌/◌, ◌%◌, ◌<◌, ◌≤◌, refl, ap, ap₂, ◌∙◌, arith, ℤ, pos, negsuc, ◌+ℤ◌, ◌-ℤ◌, ◌≤ℤ◌, w16, FitsSigned}
 use Rattle.std.proofs.lemmas.Int.{ints, to_z-of_z, fits_signed_from_abs}
 use mir.Val.{to_z, of_z}
 use Rattle.enc_tables.specs.declared.records.Vector.{Vector}
 use Rattle.spec_film.specs.Places.{sample_at}
 use Rattle.picture_planes.specs.declared.plane.Plane.{Plane}
 use Rattle.picture_planes.specs.Samples.{samples_of}
-use Rattle.picture_planes.specs.Margins.{buffer_at, buffer_width, buffer_height, nearest, inward, IsFilled}
+use Rattle.picture_planes.specs.Margins.{buffer_at, buffer_width, buffer_height, nearest, IsFilled}
 use Rattle.picture_planes.proofs.Filling.{nearest_is}
 use Rattle.spec_inter.specs.declared.Position.{Position}
 use Rattle.spec_inter.specs.declared.Position.TheVariants.{Here, Right, Below, Across, AcrossBelow, Down, DownRight, Middle}
-use Rattle.spec_inter.specs.Taps.{half, half_twice, tap, mean}
+use Rattle.spec_inter.specs.Taps.{half, mean}
 use Rattle.spec_inter.specs.Places.{whole, fraction}
 use Rattle.spec_inter.specs.Luma.{along, down, position_of, quarter_of, first_of, second_of, about, inter_luma}
 use Rattle.spec_inter.specs.Chroma.{eighth_of, inter_chroma}

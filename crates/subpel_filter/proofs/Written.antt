@@ -7,7 +7,7 @@ use Rattle.std.proofs.lemmas.Grind.{common_steps}
 use borrow.Rule.Slice.PartMut.{put_mid, mid_of}
 use Rattle.picture_planes.specs.declared.plane.Plane.{Plane}
 use Rattle.picture_planes.specs.Margins.{buffer_at, IsWindow}
-use Rattle.spec_inter.specs.Taps.{mean, half, tap}
+use Rattle.spec_inter.specs.Taps.{mean}
 use Rattle.spec_inter.specs.Luma.{along}
 use Rattle.subpel_filter.specs.Rows.{middle, half_at, half_down, RawOf}
 use Rattle.spec_inter.specs.Blocks.{RowsHold}

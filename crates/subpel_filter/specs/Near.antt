@@ -1,5 +1,5 @@
 -- Samples of a plane's buffer about a place.
-use Rattle.std.specs.Prelude.{ℕ, ℤ, pos, List, ◌+◌, ◌≡◌, ◌≤◌, ◌+ℤ◌}
+use Rattle.std.specs.Prelude.{ℕ, pos, ◌+◌, ◌≡◌, ◌≤◌, ◌+ℤ◌}
 use Rattle.picture_planes.specs.declared.plane.Plane.{Plane}
 use Rattle.picture_planes.specs.Margins.{buffer_at}
 use Rattle.spec_inter.specs.declared.Position.{Position}

@@ -1,5 +1,5 @@
 -- What is predicted from a plane.
-use Rattle.std.specs.Prelude.{ℕ, ℤ, pos, negsuc, ◌+◌, ◌≤ℤ◌}
+use Rattle.std.specs.Prelude.{ℕ, pos, negsuc, ◌+◌, ◌≤ℤ◌}
 use Rattle.enc_tables.specs.declared.records.Vector.{Vector}
 use Rattle.picture_planes.specs.declared.plane.Plane.{Plane}
 use Rattle.picture_planes.specs.Samples.{samples_of}

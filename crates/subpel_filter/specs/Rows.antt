@@ -1,5 +1,5 @@
 -- Rows of half samples, made from rows of samples.
-use Rattle.std.specs.Prelude.{ℕ, ℤ, pos, List, slice_index, min, ◌+◌, ◌-◌, ◌*◌, ◌/◌, ◌<◌, ◌≤◌, ◌≡◌, ◌+ℤ◌}
+use Rattle.std.specs.Prelude.{ℕ, pos, List, slice_index, min, ◌+◌, ◌-◌, ◌*◌, ◌/◌, ◌<◌, ◌≤◌, ◌≡◌, ◌+ℤ◌}
 use Rattle.spec_inter.specs.Taps.{tap, half}
 
 -- the half sample of six samples of a row, from place i on

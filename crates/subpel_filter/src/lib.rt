@@ -8,3 +8,6 @@ mod predict;
 mod rows;
 
 pub use predict::{chroma_block, luma_block};
+
+#[cfg(test)]
+mod tests;

@@ -1,7 +1,6 @@
-use Rattle.std.proofs.Common.{◌≡◌, ◌<◌, ◌≤◌, ◌+◌, ◌*◌, ◌∙◌, ℕ, arith, length}
-use Rattle.subpel_filter.specs.Near.{across_at, down_at, whole_at, position_at, RawAt}
-use Rattle.spec_inter.specs.declared.Position.TheVariants.{Middle}
-use Rattle.subpel_filter.proofs.Written.{block_more, across_row, whole_row, down_row, raw_row}
+use Rattle.std.proofs.Common.{◌≡◌, ◌∙◌, arith}
+use Rattle.subpel_filter.specs.Near.{down_at}
+use Rattle.subpel_filter.proofs.Written.{block_more, down_row}
 use Rattle.subpel_filter.proofs.blocks.down_block.Goals as goal
 
 pub loop-j-preserved : goal.loop-j-preserved

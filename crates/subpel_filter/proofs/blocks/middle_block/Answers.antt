@@ -1,4 +1,4 @@
-use Rattle.std.proofs.Common.{◌≡◌, ◌<◌, ◌≤◌, ◌+◌, ◌*◌, ◌∙◌, ℕ, arith, length, sym, ap, rules}
+use Rattle.std.proofs.Common.{◌≡◌, ◌+◌, ◌*◌, ◌∙◌, arith}
 use Rattle.subpel_filter.specs.Near.{position_at}
 use Rattle.subpel_filter.specs.Rows.{middle_down}
 use Rattle.spec_inter.specs.declared.Position.TheVariants.{Middle}

@@ -1,5 +1,4 @@
-use Rattle.std.proofs.Common.{ℕ, ◌≡◌}
-use Rattle.spec_inter.specs.Blocks.{RowsOf, RowsHold}
+use Rattle.spec_inter.specs.Blocks.{RowsOf}
 use Rattle.subpel_filter.specs.Near.{position_at}
 use Rattle.spec_inter.specs.declared.Position.TheVariants.{Middle}
 use Rattle.subpel_filter.proofs.blocks.middle_block.Given as goal

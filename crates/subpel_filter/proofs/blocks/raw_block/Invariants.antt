@@ -1,7 +1,5 @@
-use Rattle.std.proofs.Common.{ℕ, ◌≡◌}
-use Rattle.spec_inter.specs.Blocks.{RowsOf, RowsHold}
+use Rattle.spec_inter.specs.Blocks.{RowsHold}
 use Rattle.subpel_filter.specs.Near.{RawAt}
-use Rattle.spec_inter.specs.declared.Position.TheVariants.{Middle}
 use Rattle.subpel_filter.proofs.blocks.raw_block.Given as goal
 
 abbrev pub invariant-loop-j : goal.invariant-loop-j

@@ -1,7 +1,5 @@
-use Rattle.std.proofs.Common.{ℕ, ◌≡◌}
-use Rattle.spec_inter.specs.Blocks.{RowsOf, RowsHold}
+use Rattle.spec_inter.specs.Blocks.{RowsOf}
 use Rattle.subpel_filter.specs.Near.{whole_at}
-use Rattle.spec_inter.specs.declared.Position.TheVariants.{Middle}
 use Rattle.subpel_filter.proofs.blocks.whole_block.Given as goal
 
 abbrev pub invariant-loop-j : goal.invariant-loop-j

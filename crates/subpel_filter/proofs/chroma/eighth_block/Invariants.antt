@@ -1,4 +1,3 @@
-use Rattle.std.proofs.Common.{ℕ, ◌≡◌}
 use Rattle.spec_inter.specs.Blocks.{RowsOf}
 use Rattle.subpel_filter.specs.Near.{eighth_in}
 use Rattle.subpel_filter.proofs.chroma.eighth_block.Given as goal

@@ -1,4 +1,4 @@
-use Rattle.std.proofs.Common.{◌≡◌, ◌≤◌, ◌+◌, ◌-◌, ◌*◌, ◌∙◌, ℕ, arith, ap₂}
+use Rattle.std.proofs.Common.{◌≡◌, ◌+◌, ◌-◌, ◌*◌, ◌∙◌, ℕ, arith, ap₂}
 use Rattle.subpel_filter.proofs.chroma.weights_at.Goals as goal
 
 sum_of : (u a v c : ℕ) → u + a ≡ 8 → v + c ≡ 8 → a * c + u * c + a * v + u * v ≡ 64

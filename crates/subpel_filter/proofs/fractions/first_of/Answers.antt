@@ -1,4 +1,4 @@
-use Rattle.std.proofs.Common.{◌≡◌, ◌<◌, ◌+◌, ℕ, arith, refl}
+use Rattle.std.proofs.Common.{refl}
 use Rattle.spec_inter.specs.Luma.{firsts}
 use Rattle.subpel_filter.proofs.fractions.first_of.Goals as goal
 

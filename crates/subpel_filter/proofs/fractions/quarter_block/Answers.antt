@@ -1,7 +1,6 @@
-use Rattle.std.proofs.Common.{◌≡◌, ◌<◌, ◌≤◌, ◌+◌, ◌*◌, ◌∙◌, ℕ, arith, length, sym, ap, rules, subst}
+use Rattle.std.proofs.Common.{◌≡◌, ◌*◌, arith, ap}
 use Rattle.subpel_filter.specs.Near.{position_at, quarter_at}
 use Rattle.spec_inter.specs.Luma.{first_of, second_of}
-use Rattle.spec_inter.specs.Blocks.{RowsHold}
 use Rattle.subpel_filter.proofs.Written.{means, mean_same}
 use Rattle.subpel_filter.proofs.Even.{even_pair}
 use Rattle.subpel_filter.proofs.fractions.quarter_block.Goals as goal

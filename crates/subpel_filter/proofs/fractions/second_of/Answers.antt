@@ -1,4 +1,4 @@
-use Rattle.std.proofs.Common.{◌≡◌, ◌<◌, ◌+◌, ℕ, arith, refl}
+use Rattle.std.proofs.Common.{refl}
 use Rattle.spec_inter.specs.Luma.{seconds}
 use Rattle.subpel_filter.proofs.fractions.second_of.Goals as goal
 

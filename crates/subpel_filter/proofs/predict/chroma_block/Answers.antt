@@ -16,9 +16,9 @@ returns-then-w-eq8 c =
     let across = passed c.args.v.x s (8 * (c.args.x + 20)) c.requires.short.left c.requires.short.right c.moved-across.ensures in
     let down = passed c.args.v.y t (8 * (c.args.y + 20)) c.requires.short.up c.requires.short.down c.moved-down.ensures in
     block_same (eighth_in p (s % 8) (t % 8) (s / 8) (t / 8)) (chroma_from p c.args.x c.args.y c.args.v) 8 c.args.w c.args.h c.eighth_block.new.out c.eighth_block.ensures wide
-      (λ i j a b. chroma_is p c.args.v c.args.x c.args.y i j s t c.requires.filled c.requires.margin across down
-          (chroma_fits s c.args.x 8 i p.width p.pad c.args.v.x across c.requires.short.right right a c.requires.margin)
-          (chroma_fits t c.args.y c.args.h j p.height p.pad c.args.v.y down c.requires.short.down c.requires.inside.1 b c.requires.margin))
+    (λ i j a b. chroma_is p c.args.v c.args.x c.args.y i j s t c.requires.filled c.requires.margin across down
+    (chroma_fits s c.args.x 8 i p.width p.pad c.args.v.x across c.requires.short.right right a c.requires.margin)
+    (chroma_fits t c.args.y c.args.h j p.height p.pad c.args.v.y down c.requires.short.down c.requires.inside.1 b c.requires.margin))
 
 pub returns-else-w-eq8 : goal.returns-else-w-eq8
 returns-else-w-eq8 c =
@@ -30,6 +30,6 @@ returns-else-w-eq8 c =
     let across = passed c.args.v.x s (8 * (c.args.x + 20)) c.requires.short.left c.requires.short.right c.moved-across.ensures in
     let down = passed c.args.v.y t (8 * (c.args.y + 20)) c.requires.short.up c.requires.short.down c.moved-down.ensures in
     block_same (eighth_in p (s % 8) (t % 8) (s / 8) (t / 8)) (chroma_from p c.args.x c.args.y c.args.v) 4 c.args.w c.args.h c.eighth_block-else-w-eq8.new.out c.eighth_block-else-w-eq8.ensures wide
-      (λ i j a b. chroma_is p c.args.v c.args.x c.args.y i j s t c.requires.filled c.requires.margin across down
-          (chroma_fits s c.args.x 4 i p.width p.pad c.args.v.x across c.requires.short.right right a c.requires.margin)
-          (chroma_fits t c.args.y c.args.h j p.height p.pad c.args.v.y down c.requires.short.down c.requires.inside.1 b c.requires.margin))
+    (λ i j a b. chroma_is p c.args.v c.args.x c.args.y i j s t c.requires.filled c.requires.margin across down
+    (chroma_fits s c.args.x 4 i p.width p.pad c.args.v.x across c.requires.short.right right a c.requires.margin)
+    (chroma_fits t c.args.y c.args.h j p.height p.pad c.args.v.y down c.requires.short.down c.requires.inside.1 b c.requires.margin))

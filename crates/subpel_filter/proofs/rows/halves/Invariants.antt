@@ -1,4 +1,3 @@
-use Rattle.std.proofs.Common.{ℕ, ◌≡◌, ◌<◌, get_or}
 use Rattle.subpel_filter.specs.Rows.{HalvesOf}
 use Rattle.subpel_filter.proofs.rows.halves.Given as goal
 

@@ -1,4 +1,4 @@
-use Rattle.std.proofs.Common.{◌≡◌, ◌<◌, ◌+◌, ℕ, arith}
+use Rattle.std.proofs.Common.{◌≡◌, arith}
 use Rattle.subpel_filter.specs.Rows.{half_down}
 use Rattle.subpel_filter.proofs.Written.{item_more}
 use Rattle.subpel_filter.proofs.rows.halves_down.Goals as goal

@@ -1,4 +1,3 @@
-use Rattle.std.proofs.Common.{◌≡◌, ◌<◌, ◌+◌, ℕ, arith}
 use Rattle.subpel_filter.proofs.Halves.{raw_up_down}
 use Rattle.subpel_filter.proofs.rows.raw_of.Goals as goal
 
