@@ -1,1 +1,2 @@
 pub mod Films
+pub mod Places
