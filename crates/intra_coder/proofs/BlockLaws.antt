@@ -1,5 +1,5 @@
 -- Blocks, place by place.
-use Rattle.std.proofs.Common.{◌≡◌, ◌≤◌, ◌<◌, ◌+◌, ◌-◌, ◌*◌, ℕ, zero, suc, ℤ, pos, negsuc, Bool, w32, ◌+ℤ◌, ◌-ℤ◌, ◌≤ℤ◌, List, length, get_or, set, replicate, map, add-one, subst, inl, inr, refl, sym, ap, ap₂, ◌∙◌, arith}
+use Rattle.std.proofs.Common.{◌≡◌, ◌≤◌, ◌<◌, ◌+◌, ◌-◌, ◌*◌, ℕ, zero, suc, ℤ, pos, negsuc, Bool, w16, w32, ◌+ℤ◌, ◌-ℤ◌, ◌≤ℤ◌, List, length, get_or, set, replicate, map, add-one, subst, inl, inr, refl, sym, ap, ap₂, ◌∙◌, arith}
 use Rattle.std.specs.List.{range_with_len}
 use Rattle.std.proofs.lemmas.List.{ext_get_or}
 use Rattle.std.proofs.lemmas.List.FromFn.{length-map-range_with_len, get_or-map-range_with_len}
@@ -70,7 +70,7 @@ one_assigned place g start c s p v at_p is_v done =
     ∙ ap (λ (l : List ℤ). set l (place s) (g s)) done
     ∙ sym (steps_more (λ s c. set c (place s) (g s)) start s)
 
-item_of_zeros : (n k : ℕ) → item (replicate n (pos 0)) k ≡ pos 0
+pub item_of_zeros : (n k : ℕ) → item (replicate n (pos 0)) k ≡ pos 0
 item_of_zeros zero k = refl
 item_of_zeros (suc n) zero = refl
 item_of_zeros (suc n) (suc k) = item_of_zeros n k
@@ -181,3 +181,7 @@ built_with_dc_is kind qp dc levels c r p out e f g = g ∙ ap (λ (l : List ℤ)
 pub levels_without_dc_is : (kind : BlockKind) (intra : Bool) (qp : ℕ) (c levels : List ℤ) → levels ≡ levels4_of kind intra qp (set c 0 (pos 0)) → levels ≡ levels_without_dc kind intra qp c
 unfolding levels_without_dc
 levels_without_dc_is kind intra qp c levels e = e
+
+pub fits16_from_within : (z : ℤ) → Within 8191 z → SFits w16 z
+fits16_from_within (pos n) w = record { sfits = omega (arith, ints) }
+fits16_from_within (negsuc n) w = record { sfits = omega (arith, ints) }

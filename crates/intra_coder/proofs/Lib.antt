@@ -5,3 +5,5 @@ pub mod Gathered
 pub mod Standing
 pub mod InOrderLaws
 pub mod LumaLaws
+pub mod ZeroLaws
+pub mod Luma16Laws

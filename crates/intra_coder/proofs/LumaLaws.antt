@@ -21,8 +21,8 @@ module _ (wide : ℕ) (site : Site) (modes : List ℕ) (b : ℕ) where
   unfolding prediction4
   prediction4_is plane column row avail near p e f g h i =
       i ∙ ap (λ (n : Nb4). predicted4 (get_or modes b 0) n)
-        (h ∙ ap (λ (a : Avail). neighbours4 (plane_sample wide plane) a (site.x + 4 * column) (site.y + 4 * row)) g
-          ∙ ap₂ (λ (c r : ℕ). neighbours4 (plane_sample wide plane) (block_avail 4 site.near c r) (site.x + 4 * c) (site.y + 4 * r)) e f)
+      (h ∙ ap (λ (a : Avail). neighbours4 (plane_sample wide plane) a (site.x + 4 * column) (site.y + 4 * row)) g
+      ∙ ap₂ (λ (c r : ℕ). neighbours4 (plane_sample wide plane) (block_avail 4 site.near c r) (site.x + 4 * c) (site.y + 4 * r)) e f)
 
   pub choose4_is : (source plane : List ℕ) (wide' column row : ℕ) (original p : List ℕ) (levels : List ℤ) → column ≡ block_column b → row ≡ block_row b → wide' ≡ wide
       → original ≡ block_at wide' (site.x + 4 * column) (site.y + 4 * row) 4 source → p ≡ prediction4 wide site modes b plane
@@ -30,8 +30,8 @@ module _ (wide : ℕ) (site : Site) (modes : List ℕ) (b : ℕ) where
   unfolding choose4
   choose4_is source plane wide' column row original p levels e f w g h i =
       i ∙ ap₂ (λ (s q : List ℕ). luma_levels4 true site.qp s q)
-        (g ∙ ap (λ (v : ℕ). block_at v (site.x + 4 * column) (site.y + 4 * row) 4 source) w
-          ∙ ap₂ (λ (c r : ℕ). block_at wide (site.x + 4 * c) (site.y + 4 * r) 4 source) e f) h
+      (g ∙ ap (λ (v : ℕ). block_at v (site.x + 4 * column) (site.y + 4 * row) 4 source) w
+      ∙ ap₂ (λ (c r : ℕ). block_at wide (site.x + 4 * c) (site.y + 4 * r) 4 source) e f) h
 
   pub build4_is : (plane new : List ℕ) (column row : ℕ) (levels : List ℤ) (p samples : List ℕ) → column ≡ block_column b → row ≡ block_row b
       → p ≡ prediction4 wide site modes b plane → samples ≡ built4 site.qp levels p
@@ -47,7 +47,7 @@ module _ (wide : ℕ) (site : Site) (modes : List ℕ) (b : ℕ) where
   unfolding prediction8
   prediction8_is plane avail near p g h i =
       i ∙ ap (λ (n : Nb8). predicted8 (get_or modes b 0) n)
-        (h ∙ ap (λ (a : Avail). neighbours8 (plane_sample wide plane) a (x8 site b) (y8 site b)) g)
+      (h ∙ ap (λ (a : Avail). neighbours8 (plane_sample wide plane) a (x8 site b) (y8 site b)) g)
 
   pub choose8_is : (source plane : List ℕ) (wide' : ℕ) (original p : List ℕ) (levels : List ℤ) → wide' ≡ wide
       → original ≡ block_at wide' (x8 site b) (y8 site b) 8 source → p ≡ prediction8 wide site modes b plane

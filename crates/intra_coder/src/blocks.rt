@@ -67,7 +67,7 @@ pub fn constructed<const N: usize>(prediction: &[u8; N], residual: &[i32; N]) ->
 }
 
 #[inline(always)]
-fn zigzag4(scan: usize) -> u8
+pub fn zigzag4(scan: usize) -> u8
     requires { scan < 16 }
     ensures value { result ≡ slice_index ZIGZAG4 scan }
     ensures inside { result < 16 }

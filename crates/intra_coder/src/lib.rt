@@ -3,6 +3,7 @@
 
 mod blocks;
 mod luma;
+mod luma16;
 mod luma4;
 mod luma8;
 mod near;

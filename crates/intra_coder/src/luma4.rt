@@ -28,7 +28,13 @@ fn prediction4(plane: &Plane, site: &Site, modes: &[u8; 16], b: u32) -> [u8; 16]
 
 // Codes block `b` and builds it in the plane.
 #[inline(always)]
-fn code_block4(plane: &mut Plane, source: &Plane, site: &Site, modes: &[u8; 16], b: u32) -> [i16; 16]
+fn code_block4(
+    plane: &mut Plane,
+    source: &Plane,
+    site: &Site,
+    modes: &[u8; 16],
+    b: u32,
+) -> [i16; 16]
     requires block { b < 16 }
     requires in_range { site.now.qp ≤ 51 }
     requires stands { Stands site.now plane.old }

@@ -67,3 +67,22 @@ pub fn block8_at(plane: &Plane, x: u32, y: u32) -> [u8; 64]
     read_block(plane, x, y, 8, &mut block);
     block
 }
+
+/// The block of 4 by 4 samples at (`x`, `y`) of samples that stand row by row, `wide` in each row.
+#[inline(always)]
+pub fn block_of(wide: u32, samples: &[u8], x: u32, y: u32) -> [u8; 16]
+    requires few { wide ≤ 16 }
+    requires column { x ≤ 16 }
+    requires row { y ≤ 16 }
+    requires inside { (y + 3) * wide + x + 4 ≤ length samples.now }
+    ensures { result ≡ block_at wide x y 4 samples.now }
+{
+    let mut block = [0u8; 16];
+    for j in 0..4u32 {
+        let from = ((y + j) * wide + x) as usize;
+        let start = j as usize * 4;
+        let end = start + 4;
+        block[start..end].copy_from_slice(&samples[from..from + 4]);
+    }
+    block
+}

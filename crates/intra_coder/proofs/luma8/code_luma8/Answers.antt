@@ -38,7 +38,7 @@ loop-b-preserved c =
       long = piece_long c.loop-b.levels c.copy_from_slice.new.self (b * 64) 64 (b * 64 + 64 - b * 64) room piece k ∙ c.loop-b.invariant.long;
       shape = (c.code_block8-block.ensures.shape.0 ∙ c.loop-b.invariant.shape.0, c.code_block8-block.ensures.shape.1 ∙ c.loop-b.invariant.shape.1, c.code_block8-block.ensures.shape.2 ∙ c.loop-b.invariant.shape.2);
       levels = next_piece (build8 wide site modes) (choose8 wide site modes source) (samples_of c.args.plane.now) b 64 (b * 64 + 64 - b * 64) c.loop-b.levels c.copy_from_slice.new.self block (samples_of c.loop-b.plane)
-        room long k c.copy_from_slice.ensures.after c.loop-b.invariant.samples c.loop-b.invariant.levels chosen;
+          room long k c.copy_from_slice.ensures.after c.loop-b.invariant.samples c.loop-b.invariant.levels chosen;
       samples = next_samples (build8 wide site modes) (choose8 wide site modes source) (samples_of c.args.plane.now) b block (samples_of c.loop-b.plane) _ c.loop-b.invariant.samples chosen written;
     }
 
