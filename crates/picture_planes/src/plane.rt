@@ -34,7 +34,7 @@ fn clamped(place: i32, size: u32) -> u32
 }
 
 impl Plane {
-    ghost use Rattle.picture_planes.specs.Samples.{row_start, row_of, samples_of, at, LendsRow, SameShape};
+    ghost use Rattle.picture_planes.specs.Samples.{row_start, row_of, samples_of, at, LendsRow, LendsBuffer, SameShape};
 
     /// A plane whose samples are 0, in the margin too. Width is from 1 to 4096, height from 1 to 2304 and `pad` at
     /// most 40.
@@ -88,6 +88,16 @@ impl Plane {
             + self.pad as usize;
         let end = start + self.width as usize;
         self.bytes.slice_mut(start..end)
+    }
+
+    /// Lends all rows with their margins for writing, as one buffer: the sample at column `x` of row `y` stands at
+    /// `(y + pad) * (width + 2 * pad) + pad + x`.
+    pub fn buffer_mut(&mut self) -> &mut [u8]
+        ensures* writes_back { sem 𝓛 (LendsBuffer self.entry result) }
+        ensures value { result.now ≡ self.old.bytes.items }
+        ensures len { length result.now ≡ (self.old.width + 2 * self.old.pad) * (self.old.height + 2 * self.old.pad) }
+    {
+        self.bytes.as_mut_slice()
     }
 
     /// Writes `rows` whole rows from row `first` on: `samples` has them one after another, without margins.
