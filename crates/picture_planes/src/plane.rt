@@ -44,7 +44,7 @@ fn buffer_place(y: i32, pad: u32) -> usize
 }
 
 impl Plane {
-    ghost use Rattle.picture_planes.specs.Samples.{row_start, row_of, samples_of, at, LendsRow, SameShape};
+    ghost use Rattle.picture_planes.specs.Samples.{row_start, row_of, samples_of, at, LendsRow, LendsBuffer, SameShape};
     ghost use Rattle.picture_planes.specs.Margins.{buffer_width, buffer_height, buffer_row, IsFilled, IsInMargin, HoldsNearest, IsWindow, IsNearestWindow, LendsBufferRow};
     ghost use Rattle.picture_planes.specs.Edges.{with_sides, OneRow, Edged};
     ghost use Rattle.picture_planes.specs.Placed.{RowsPlaced};
@@ -101,6 +101,16 @@ impl Plane {
             + self.pad as usize;
         let end = start + self.width as usize;
         self.bytes.slice_mut(start..end)
+    }
+
+    /// Lends all rows with their margins for writing, as one buffer: the sample at column `x` of row `y` stands at
+    /// `(y + pad) * (width + 2 * pad) + pad + x`.
+    pub fn buffer_mut(&mut self) -> &mut [u8]
+        ensures* writes_back { sem 𝓛 (LendsBuffer self.entry result) }
+        ensures value { result.now ≡ self.old.bytes.items }
+        ensures len { length result.now ≡ (self.old.width + 2 * self.old.pad) * (self.old.height + 2 * self.old.pad) }
+    {
+        self.bytes.as_mut_slice()
     }
 
     /// Writes `rows` whole rows from row `first` on: `samples` has them one after another, without margins.
