@@ -9,3 +9,4 @@ pub mod Placing
 pub mod Windows
 pub mod Filling
 pub mod Lending
+pub mod Blocks

@@ -47,6 +47,10 @@ HoldsNearest p y row first last = (c : ℕ) → first ≤ c → c < last → sli
 abbrev pub IsWindow : Plane → ℕ → ℕ → ℕ → List ℕ → Type 0
 IsWindow p c r n xs = (i : ℕ) → i < n → slice_index xs i ≡ buffer_at p (c + i) r
 
+-- xs is the bytes of the buffer from column c of row r on: each row begins the buffer's width after the one before
+abbrev pub IsBlock : Plane → ℕ → ℕ → List ℕ → Type 0
+IsBlock p c r xs = (i j : ℕ) → c + i < buffer_width p → r + j < buffer_height p → slice_index xs (j * buffer_width p + i) ≡ buffer_at p (c + i) (r + j)
+
 -- xs is n samples nearest to the places of row r of the buffer from column c on
 abbrev pub IsNearestWindow : Plane → ℕ → ℕ → ℕ → List ℕ → Type 0
 IsNearestWindow p c r n xs = (i : ℕ) → i < n → slice_index xs i ≡ nearest p (inward p (c + i)) (inward p r)

@@ -1,5 +1,5 @@
 // A plane is one buffer of rows, with a margin on each side.
-ghost use Rattle.std.specs.Prelude.{◌≡◌, ◌≢◌, ◌≤◌, ◌<◌, ◌+◌, ◌-◌, ◌*◌, ℕ, List, length, vec_len, IfOk, replicate, slice_range, pos, ◌+ℤ◌, ◌≤ℤ◌, ◌<ℤ◌};
+ghost use Rattle.std.specs.Prelude.{◌≡◌, ◌≢◌, ◌≤◌, ◌<◌, ◌+◌, ◌-◌, ◌*◌, ℕ, List, length, vec_len, IfOk, replicate, slice_range, drop, pos, ◌+ℤ◌, ◌≤ℤ◌, ◌<ℤ◌};
 ghost use Rattle.std.specs.Borrow.{sem};
 ghost use Rattle.spec_film.specs.Places.{clamped_to};
 ghost use Rattle.picture_planes.specs.Over.{over};
@@ -45,7 +45,7 @@ fn buffer_place(y: i32, pad: u32) -> usize
 
 impl Plane {
     ghost use Rattle.picture_planes.specs.Samples.{row_start, row_of, samples_of, at, LendsRow, LendsBuffer, SameShape};
-    ghost use Rattle.picture_planes.specs.Margins.{buffer_width, buffer_height, buffer_row, IsFilled, IsInMargin, HoldsNearest, IsWindow, IsNearestWindow, LendsBufferRow};
+    ghost use Rattle.picture_planes.specs.Margins.{buffer_width, buffer_height, buffer_row, IsFilled, IsInMargin, HoldsNearest, IsWindow, IsBlock, IsNearestWindow, LendsBufferRow};
     ghost use Rattle.picture_planes.specs.Edges.{with_sides, OneRow, Edged};
     ghost use Rattle.picture_planes.specs.Placed.{RowsPlaced};
 
@@ -177,6 +177,20 @@ impl Plane {
     {
         let start = row * (self.width + 2 * self.pad) as usize + column;
         &self.bytes[start..start + count]
+    }
+
+    /// The buffer's bytes from column `column` of row `row` on to its end, row after row; columns and rows are counted
+    /// from the margin's corner.
+    #[inline(always)]
+    pub fn rows_from(&self, column: usize, row: usize) -> &[u8]
+        requires down { row < buffer_height self.now }
+        requires across { column < buffer_width self.now }
+        ensures list { result.now ≡ drop (row * buffer_width self.now + column) self.now.bytes.items }
+        ensures value { IsBlock self.now column row result.now }
+        ensures len { (w h : ℕ) → column + w ≤ buffer_width self.now → row + h ≤ buffer_height self.now → 0 < h → (h - 1) * buffer_width self.now + w ≤ length result.now }
+    {
+        let start = row * (self.width + 2 * self.pad) as usize + column;
+        &self.bytes[start..]
     }
 
     // Lends a row of the buffer, margins and all.
