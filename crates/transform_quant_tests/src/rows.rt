@@ -1,7 +1,7 @@
 // The calls against numbers that were computed by hand or by another program.
 use transform_quant::{
-    BlockKind, chroma_dc, forward4, forward8, inverse4, inverse8, luma_dc, quantise, quantise_chroma_dc,
-    quantise4, quantise8, rescale, rescale_chroma_dc, rescale_luma_dc,
+    BlockKind, chroma_dc, forward4, forward8, inverse4, inverse8, luma_dc, quantise,
+    quantise_chroma_dc, quantise4, quantise8, rescale, rescale_chroma_dc, rescale_luma_dc,
 };
 
 // Sixteen differences, and their transform.

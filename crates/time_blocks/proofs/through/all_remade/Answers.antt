@@ -19,4 +19,4 @@ pub returns-clause-small : goal.returns-clause-small
 returns-clause-small g c p h =
     let level = level_of c.args.kind c.args.intra c.args.qp p (item c.args.c.now p) in
     subst (λ (z : ℤ). Within 1048576 z) (sym (c.loop-p.invariant.done p (omega (arith, c.loop-p-test.false))))
-        (rescaled_small c.args.kind c.args.intra c.args.qp p level c.requires.in_range (record { coefficient = item c.args.c.now p; small = c.requires.of_kind p h; made = refl }))
+    (rescaled_small c.args.kind c.args.intra c.args.qp p level c.requires.in_range (record { coefficient = item c.args.c.now p; small = c.requires.of_kind p h; made = refl }))

@@ -1,0 +1,4 @@
+pub mod Neighbours
+pub mod Prediction
+pub mod Skip
+pub mod Direct
