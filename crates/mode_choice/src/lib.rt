@@ -3,4 +3,5 @@
 
 mod blocks;
 mod difference;
+mod macroblock;
 mod modes;

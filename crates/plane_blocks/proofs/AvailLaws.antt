@@ -48,7 +48,7 @@ rows_from f r w c h k = elim (cases_lt f r) [
     | inr g ↦ (let m : r * w ≤ f * w = mul-le-mul_right w g in absurd (omega arith))
   ]
 
-left_is : (w f r c : ℕ) → c < w → f ≤ r → nat_lt 0 c ≡ (macroblock_avail w (f * w) (r * w + c)).left
+pub left_is : (w f r c : ℕ) → c < w → f ≤ r → nat_lt 0 c ≡ (macroblock_avail w (f * w) (r * w + c)).left
 left_is w f r c h g =
     let m = column_of r w c h in
     let k : f * w ≤ r * w = mul-le-mul_right w g in
@@ -58,13 +58,13 @@ left_is w f r c h g =
       (λ t. let n = (and_parts (not ((r * w + c) % w == 0)) (nat_le (f * w + 1) (r * w + c)) t).0 in
         lt-ltb 0 c (positive c (rw m at n)))
 
-above_is : (w f r c : ℕ) → c < w → nat_lt f r ≡ (macroblock_avail w (f * w) (r * w + c)).above
+pub above_is : (w f r c : ℕ) → c < w → nat_lt f r ≡ (macroblock_avail w (f * w) (r * w + c)).above
 above_is w f r c h =
     bool_is (nat_lt f r) (nat_le (f * w + w) (r * w + c))
       (λ t. let k = rows_apart f r w (ltb-true f r t) in le-leb (f * w + w) (r * w + c) (omega arith))
       (λ t. lt-ltb f r (rows_from f r w c h (leb-true (f * w + w) (r * w + c) t)))
 
-corner_is : (w f r c : ℕ) → c < w → (nat_lt 0 c && nat_lt f r) ≡ (macroblock_avail w (f * w) (r * w + c)).corner
+pub corner_is : (w f r c : ℕ) → c < w → (nat_lt 0 c && nat_lt f r) ≡ (macroblock_avail w (f * w) (r * w + c)).corner
 corner_is w f r c h =
     let m = column_of r w c h in
     bool_is (nat_lt 0 c && nat_lt f r) _
@@ -85,7 +85,7 @@ not_last r w c h n = elim (cases_lt (c + 1) w) [
         absurd (not_is (0 == 0) (rw z at n) refl))
   ]
 
-beyond_is : (w f r c : ℕ) → c < w → (nat_lt f r && nat_lt c (w - 1)) ≡ (macroblock_avail w (f * w) (r * w + c)).above_right
+pub beyond_is : (w f r c : ℕ) → c < w → (nat_lt f r && nat_lt c (w - 1)) ≡ (macroblock_avail w (f * w) (r * w + c)).above_right
 beyond_is w f r c h =
     bool_is (nat_lt f r && nat_lt c (w - 1)) _
       (λ t. let p = and_parts (nat_lt f r) (nat_lt c (w - 1)) t in
