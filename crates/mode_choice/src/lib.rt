@@ -5,3 +5,6 @@ mod blocks;
 mod difference;
 mod macroblock;
 mod modes;
+mod rows;
+
+pub use rows::plan_row;
