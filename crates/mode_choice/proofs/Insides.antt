@@ -29,49 +29,49 @@ to_right column x a right t = let k = right (ltb-true 0 column t) in omega arith
 
 side : (column x a : ℕ) (there : Bool) → (0 < column → 0 < a) → (there ≡ true → 16 ≤ x) → nat_lt 0 column || there ≡ true → 0 < x + a
 side column x a there right inside t = elim (either (nat_lt 0 column) there t) [
-    | inl p ↦ to_right column x a right p
-    | inr q ↦ (let k = inside q in omega arith)
-  ]
+  | inl p ↦ to_right column x a right p
+  | inr q ↦ (let k = inside q in omega arith)
+]
 
 corner_left : (column row x a : ℕ) (mb : Avail) → (0 < column → 0 < a) → (mb.left ≡ true → 16 ≤ x) → (mb.corner ≡ true → 16 ≤ x)
     → cond (nat_lt 0 row) (nat_lt 0 column || mb.left) (cond (nat_lt 0 column) mb.above mb.corner) ≡ true → 0 < x + a
 corner_left column row x a mb right inside corner t = elim (by_test (nat_lt 0 row) _ _ t) [
-    | inl p ↦ side column x a mb.left right inside p.1
-    | inr q ↦ elim (by_test (nat_lt 0 column) mb.above mb.corner q.1) [
-      | inl p ↦ to_right column x a right p.0
-      | inr r ↦ (let k = corner r.1 in omega arith)
-    ]
+  | inl p ↦ side column x a mb.left right inside p.1
+  | inr q ↦ elim (by_test (nat_lt 0 column) mb.above mb.corner q.1) [
+    | inl p ↦ to_right column x a right p.0
+    | inr r ↦ (let k = corner r.1 in omega arith)
   ]
+]
 
 corner_above : (column row y b : ℕ) (mb : Avail) → (0 < row → 0 < b) → (mb.above ≡ true → 16 ≤ y) → (mb.corner ≡ true → 16 ≤ y)
     → cond (nat_lt 0 row) (nat_lt 0 column || mb.left) (cond (nat_lt 0 column) mb.above mb.corner) ≡ true → 0 < y + b
 corner_above column row y b mb down inside corner t = elim (by_test (nat_lt 0 row) _ _ t) [
-    | inl p ↦ to_right row y b down p.0
-    | inr q ↦ elim (by_test (nat_lt 0 column) mb.above mb.corner q.1) [
-      | inl p ↦ (let k = inside p.1 in omega arith)
-      | inr r ↦ (let k = corner r.1 in omega arith)
-    ]
+  | inl p ↦ to_right row y b down p.0
+  | inr q ↦ elim (by_test (nat_lt 0 column) mb.above mb.corner q.1) [
+    | inl p ↦ (let k = inside p.1 in omega arith)
+    | inr r ↦ (let k = corner r.1 in omega arith)
   ]
+]
 
 beyond : (column row n x a s width : ℕ) (mb : Avail) (later : Bool) → (column + 1 < n → a + s + s ≤ 16) → a + s ≤ 16 → x + 16 ≤ width → (mb.above_right ≡ true → x + 32 ≤ width)
     → cond (nat_lt 0 row) (nat_lt (column + 1) n && later) (cond (nat_lt (column + 1) n) mb.above mb.above_right) ≡ true → x + a + s + s ≤ width
 beyond column row n x a s width mb later more wide inside last t = elim (by_test (nat_lt 0 row) _ _ t) [
-    | inl p ↦ (let k = more (ltb-true (column + 1) n (and_parts (nat_lt (column + 1) n) later p.1).0) in omega arith)
-    | inr q ↦ elim (by_test (nat_lt (column + 1) n) mb.above mb.above_right q.1) [
-      | inl p ↦ (let k = more (ltb-true (column + 1) n p.0) in omega arith)
-      | inr r ↦ (let k = last r.1 in omega arith)
-    ]
+  | inl p ↦ (let k = more (ltb-true (column + 1) n (and_parts (nat_lt (column + 1) n) later p.1).0) in omega arith)
+  | inr q ↦ elim (by_test (nat_lt (column + 1) n) mb.above mb.above_right q.1) [
+    | inl p ↦ (let k = more (ltb-true (column + 1) n p.0) in omega arith)
+    | inr r ↦ (let k = last r.1 in omega arith)
   ]
+]
 
 beyond_above : (column row n y b : ℕ) (mb : Avail) (later : Bool) → (0 < row → 0 < b) → (mb.above ≡ true → 16 ≤ y) → (mb.above_right ≡ true → 16 ≤ y)
     → cond (nat_lt 0 row) (nat_lt (column + 1) n && later) (cond (nat_lt (column + 1) n) mb.above mb.above_right) ≡ true → 0 < y + b
 beyond_above column row n y b mb later down inside last t = elim (by_test (nat_lt 0 row) _ _ t) [
-    | inl p ↦ to_right row y b down p.0
-    | inr q ↦ elim (by_test (nat_lt (column + 1) n) mb.above mb.above_right q.1) [
-      | inl p ↦ (let k = inside p.1 in omega arith)
-      | inr r ↦ (let k = last r.1 in omega arith)
-    ]
+  | inl p ↦ to_right row y b down p.0
+  | inr q ↦ elim (by_test (nat_lt (column + 1) n) mb.above mb.above_right q.1) [
+    | inl p ↦ (let k = inside p.1 in omega arith)
+    | inr r ↦ (let k = last r.1 in omega arith)
   ]
+]
 
 readable_at : (plane : Plane) (mb : Avail) (x y s n column row a b : ℕ) → Inside plane mb x y → Lies s n column row a b
     → Readable s plane (block_avail n mb column row) (x + a) (y + b)
@@ -93,14 +93,14 @@ pub readable4 : (plane : Plane) (mb near : Avail) (x y column row : ℕ) → Ins
 readable4 plane mb near x y column row inside c r is =
     let P : Avail → Type 0 = λ v. Readable 4 plane v (x + 4 * column) (y + 4 * row) in
     subst P (sym is) (readable_at plane mb x y 4 4 column row (4 * column) (4 * row) inside
-      (record { right = λ h. omega arith; down = λ h. omega arith; wide = omega arith; high = omega arith; more = λ h. omega arith }))
+    (record { right = λ h. omega arith; down = λ h. omega arith; wide = omega arith; high = omega arith; more = λ h. omega arith }))
 
 pub readable8 : (plane : Plane) (mb near : Avail) (x y column row : ℕ) → Inside plane mb x y → column < 2 → row < 2 → near ≡ block_avail 2 mb column row
     → Readable 8 plane near (x + 8 * column) (y + 8 * row)
 readable8 plane mb near x y column row inside c r is =
     let P : Avail → Type 0 = λ v. Readable 8 plane v (x + 8 * column) (y + 8 * row) in
     subst P (sym is) (readable_at plane mb x y 8 2 column row (8 * column) (8 * row) inside
-      (record { right = λ h. omega arith; down = λ h. omega arith; wide = omega arith; high = omega arith; more = λ h. omega arith }))
+    (record { right = λ h. omega arith; down = λ h. omega arith; wide = omega arith; high = omega arith; more = λ h. omega arith }))
 
 -- a macroblock in its row and column, in the luma plane and in a chroma plane
 pub macroblock_inside : (plane : Plane) (mb : Avail) (width first row column : ℕ) → plane.width ≡ 16 * width → 16 * row + 16 ≤ plane.height → column < width → first ≤ row
@@ -118,16 +118,19 @@ macroblock_inside plane mb width first row column wide high within start is = re
   where
     is_left : mb.left ≡ true → 0 < column
     is_left t = ltb-true 0 column (left_is width first row column within start ∙ ap (λ (a : Avail). a.left) (sym is) ∙ t)
+
     is_above : mb.above ≡ true → first < row
     is_above t = ltb-true first row (above_is width first row column within ∙ ap (λ (a : Avail). a.above) (sym is) ∙ t)
+
     is_corner : mb.corner ≡ true → (0 < column) × (first < row)
     is_corner t =
-      let p = and_parts (nat_lt 0 column) (nat_lt first row) (corner_is width first row column within ∙ ap (λ (a : Avail). a.corner) (sym is) ∙ t) in
-      (ltb-true 0 column p.0, ltb-true first row p.1)
+        let p = and_parts (nat_lt 0 column) (nat_lt first row) (corner_is width first row column within ∙ ap (λ (a : Avail). a.corner) (sym is) ∙ t) in
+        (ltb-true 0 column p.0, ltb-true first row p.1)
+
     is_beyond : mb.above_right ≡ true → (first < row) × (column < width - 1)
     is_beyond t =
-      let p = and_parts (nat_lt first row) (nat_lt column (width - 1)) (beyond_is width first row column within ∙ ap (λ (a : Avail). a.above_right) (sym is) ∙ t) in
-      (ltb-true first row p.0, ltb-true column (width - 1) p.1)
+        let p = and_parts (nat_lt first row) (nat_lt column (width - 1)) (beyond_is width first row column within ∙ ap (λ (a : Avail). a.above_right) (sym is) ∙ t) in
+        (ltb-true first row p.0, ltb-true column (width - 1) p.1)
 
 pub whole_reachable : (plane : Plane) (mb : Avail) (x y : ℕ) → Inside plane mb x y → Reachable 16 plane mb x y
 whole_reachable plane mb x y inside = record {

@@ -35,31 +35,30 @@ module _ (t8x8 : Bool) (source : Planes) (row column : ℕ) where
 
   abbrev plan_at : Avail → ℕ → ℕ → MbPlan
   plan_at mb wide wide_chroma =
-    made (best16 wide source.luma mb (16 * column) (16 * row)).mode (modes8_at mb wide) (modes4_at mb wide)
+      made (best16 wide source.luma mb (16 * column) (16 * row)).mode (modes8_at mb wide) (modes4_at mb wide)
       (best_chroma wide_chroma source.cb source.cr mb (8 * column) (8 * row)).mode
       (best16 wide source.luma mb (16 * column) (16 * row)).cost (cost8_at mb wide) (cost4_at mb wide) (replicate 9 blank_part)
 
   module _ (width first : ℕ) (mb : Avail) (wide wide_chroma : ℕ) (is_mb : mb ≡ macroblock_avail width (first * width) (row * width + column))
       (is_wide : wide ≡ 16 * width) (is_chroma : wide_chroma ≡ 8 * width) where
-
     abbrev whole_at : ModeCost
     whole_at = best16 wide source.luma mb (16 * column) (16 * row)
 
     settled : plan_at mb wide wide_chroma ≡ intra_plan width first t8x8 source row column
     unfolding intra_plan
     settled =
-      ap (λ (a : Avail). plan_at a wide wide_chroma) is_mb
-      ∙ ap₂ (λ (w c : ℕ). plan_at (macroblock_avail width (first * width) (row * width + column)) w c) is_wide is_chroma
+        ap (λ (a : Avail). plan_at a wide wide_chroma) is_mb
+        ∙ ap₂ (λ (w c : ℕ). plan_at (macroblock_avail width (first * width) (row * width + column)) w c) is_wide is_chroma
 
     pub plan_is : (whole chroma : ModeCost) (modes8 modes4 : List ℕ) (cost8 cost4 : ℕ) (parts : List PartPlan)
-      → whole ≡ best16 wide source.luma mb (16 * column) (16 * row)
-      → modes8 ≡ modes8_at mb wide → cost8 ≡ cost8_at mb wide → modes4 ≡ modes4_at mb wide → cost4 ≡ cost4_at mb wide
-      → chroma ≡ best_chroma wide_chroma source.cb source.cr mb (8 * column) (8 * row)
-      → parts ≡ replicate 9 blank_part
-      → made whole.mode modes8 modes4 chroma.mode whole.cost cost8 cost4 parts ≡ intra_plan width first t8x8 source row column
+        → whole ≡ best16 wide source.luma mb (16 * column) (16 * row)
+        → modes8 ≡ modes8_at mb wide → cost8 ≡ cost8_at mb wide → modes4 ≡ modes4_at mb wide → cost4 ≡ cost4_at mb wide
+        → chroma ≡ best_chroma wide_chroma source.cb source.cr mb (8 * column) (8 * row)
+        → parts ≡ replicate 9 blank_part
+        → made whole.mode modes8 modes4 chroma.mode whole.cost cost8 cost4 parts ≡ intra_plan width first t8x8 source row column
     plan_is whole chroma modes8 modes4 cost8 cost4 parts a b c d e f g =
-      ap (λ (w : ModeCost). made w.mode modes8 modes4 chroma.mode w.cost cost8 cost4 parts) a
-      ∙ ap₂ (λ (l : List ℕ) (n : ℕ). made whole_at.mode l modes4 chroma.mode whole_at.cost n cost4 parts) b c
-      ∙ ap₂ (λ (l : List ℕ) (n : ℕ). made whole_at.mode (modes8_at mb wide) l chroma.mode whole_at.cost (cost8_at mb wide) n parts) d e
-      ∙ ap₂ (λ (m : ModeCost) (p : List PartPlan). made whole_at.mode (modes8_at mb wide) (modes4_at mb wide) m.mode whole_at.cost (cost8_at mb wide) (cost4_at mb wide) p) f g
-      ∙ settled
+        ap (λ (w : ModeCost). made w.mode modes8 modes4 chroma.mode w.cost cost8 cost4 parts) a
+        ∙ ap₂ (λ (l : List ℕ) (n : ℕ). made whole_at.mode l modes4 chroma.mode whole_at.cost n cost4 parts) b c
+        ∙ ap₂ (λ (l : List ℕ) (n : ℕ). made whole_at.mode (modes8_at mb wide) l chroma.mode whole_at.cost (cost8_at mb wide) n parts) d e
+        ∙ ap₂ (λ (m : ModeCost) (p : List PartPlan). made whole_at.mode (modes8_at mb wide) (modes4_at mb wide) m.mode whole_at.cost (cost8_at mb wide) (cost4_at mb wide) p) f g
+        ∙ settled

@@ -98,7 +98,14 @@ fn no_parts() -> [PartPlan; 9]
 
 /// The intra part of a macroblock's plan. The macroblock is in column `column` of row `row`; the picture has `width`
 /// macroblocks in a row, and the slice begins with row `first_row`.
-pub fn plan_macroblock(source: &Picture, width: u32, first_row: u32, row: u32, column: u32, t8x8: bool) -> MbPlan
+pub fn plan_macroblock(
+    source: &Picture,
+    width: u32,
+    first_row: u32,
+    row: u32,
+    column: u32,
+    t8x8: bool,
+) -> MbPlan
     requires width { source.now.y.width ≡ 16 * width }
     requires row { 16 * row + 16 ≤ source.now.y.height }
     requires column { column < width }

@@ -12,7 +12,14 @@ use picture_planes::Picture;
 /// Plans row `row` of macroblocks of the source: for each macroblock the best intra modes and what they cost, as sums of absolute
 /// differences of the source and its prediction from neighbours in the source. The slice begins with row `first_row`; nothing
 /// above it is used. Without `t8x8` no 8x8 blocks are planned. `out` has to have a place for each macroblock of the row.
-pub fn plan_row(source: &Picture, _kind: SliceKind, first_row: u32, row: u32, t8x8: bool, out: &mut RowPlan)
+pub fn plan_row(
+    source: &Picture,
+    _kind: SliceKind,
+    first_row: u32,
+    row: u32,
+    t8x8: bool,
+    out: &mut RowPlan,
+)
     requires width { source.now.y.width ≡ 16 * vec_len out.old.mbs }
     requires row { 16 * row + 16 ≤ source.now.y.height }
     requires first { first_row ≤ row }

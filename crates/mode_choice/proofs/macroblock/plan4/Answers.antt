@@ -1,4 +1,4 @@
-use Rattle.std.proofs.Common.{◌≡◌, ◌≤◌, ◌<◌, ◌+◌, ◌*◌, ◌/◌, ◌%◌, ℕ, List, add-one, refl, sym, ap, ap₂, ◌∙◌, arith}
+use Rattle.std.proofs.Common.{◌≡◌, ◌+◌, ◌*◌, ℕ, add-one, refl, ap, ap₂, ◌∙◌, arith}
 use Rattle.std.proofs.lemmas.List.{length-set}
 use Rattle.picture_planes.specs.Samples.{samples_of}
 use Rattle.spec_intra.specs.declared.Avail.{Avail}
@@ -6,7 +6,7 @@ use Rattle.spec_intra.specs.Slopes.{sum_below}
 use Rattle.spec_intra.specs.Near.{block_column, block_row}
 use Rattle.spec_choice.specs.declared.ModeCost.{ModeCost}
 use Rattle.spec_choice.specs.IntraPlans.{best4, best4_of}
-use Rattle.intra_pred.proofs.Filled.{Lined, lined_more, lined_all}
+use Rattle.intra_pred.proofs.Filled.{lined_more, lined_all}
 use Rattle.mode_choice.proofs.macroblock.plan4.Goals as goal
 
 sum_more : (f : ℕ → ℕ) (n : ℕ) → sum_below f n + f n ≡ sum_below f (n + 1)
@@ -19,8 +19,8 @@ loop-b-preserved c =
     let i = c.loop-b.b in
     let f = λ (j : ℕ). best4_of wide samples c.args.mb.now c.args.x c.args.y j in
     let is : c.choose4-best.result ≡ f i =
-      c.choose4-best.ensures.value
-      ∙ ap (λ (a : Avail). best4 wide samples a (c.args.x + 4 * (block_column i)) (c.args.y + 4 * (block_row i))) c.near_block4-near.ensures in
+    c.choose4-best.ensures.value
+    ∙ ap (λ (a : Avail). best4 wide samples a (c.args.x + 4 * (block_column i)) (c.args.y + 4 * (block_row i))) c.near_block4-near.ensures in
     let long = c.loop-b.invariant.size in
     record {
       size = length-set c.loop-b.modes i c.choose4-best.result.mode ∙ long;
@@ -33,4 +33,4 @@ pub returns-clause-modes : goal.returns-clause-modes
 returns-clause-modes c =
     let e : c.loop-b.b ≡ 16 = omega arith in
     lined_all 16 (λ j. (best4_of c.args.luma.now.width (samples_of c.args.luma.now) c.args.mb.now c.args.x c.args.y j).mode) c.loop-b.modes c.loop-b.invariant.size
-      (rw e at c.loop-b.invariant.modes)
+    (rw e at c.loop-b.invariant.modes)

@@ -1,5 +1,4 @@
-use Rattle.std.proofs.Common.{◌≡◌, ◌<◌, ℕ, Bool, List, vec_len, length, get_or, map, ap, sym, ◌∙◌, arith}
-use Rattle.std.specs.List.{range_with_len}
+use Rattle.std.proofs.Common.{◌≡◌, ◌<◌, ℕ, Bool, List, vec_len, length, get_or, ap, sym, ◌∙◌, arith}
 use Rattle.std.proofs.lemmas.List.Elements.{All-from_get_or}
 use Rattle.std.proofs.lemmas.List.FromFn.{fill_by_all}
 use Rattle.enc_tables.specs.declared.records.MbPlan.{MbPlan}
@@ -20,11 +19,11 @@ returns-clause-plans c =
     let end : c.loop-column.column ≡ c.len-width.result = omega (arith, c.loop-column-test.false, c.loop-column.auto.column-end) in
     let same : c.len-width.result ≡ vec_len c.args.out.now.mbs = c.len-width.ensures in
     all_planned c.len-width.result c.args.first_row c.args.t8x8 (planes_of c.args.source.now) c.args.row c.loop-column.out.mbs.items
-      (sym c.loop-column.out.mbs.ok.0 ∙ c.loop-column.invariant.size) (rw end at c.loop-column.invariant.plans)
+    (sym c.loop-column.out.mbs.ok.0 ∙ c.loop-column.invariant.size) (rw end at c.loop-column.invariant.plans)
     ∙ ap (λ (n : ℕ). intra_plans n c.args.first_row c.args.t8x8 (planes_of c.args.source.now) c.args.row) same
 
 pub returns-clause-small : goal.returns-clause-small
 returns-clause-small c =
     let end : c.loop-column.column ≡ c.len-width.result = omega (arith, c.loop-column-test.false, c.loop-column.auto.column-end) in
     All-from_get_or SmallCosts c.loop-column.out.mbs.items blank_plan
-      (λ k h. c.loop-column.invariant.small k (omega (arith, end, c.loop-column.out.mbs.ok.0, c.loop-column.invariant.size)))
+    (λ k h. c.loop-column.invariant.small k (omega (arith, end, c.loop-column.out.mbs.ok.0, c.loop-column.invariant.size)))
