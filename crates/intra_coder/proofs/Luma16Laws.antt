@@ -47,7 +47,7 @@ module _ (wide : ℕ) (site : Site) where
   unfolding luma16_dc
   luma16_dc_is mode source plane p wide' firsts means levels e w f g h =
       h ∙ ap (λ (l : List ℤ). levels4_of LumaDc true site.qp l) (g ∙ ap (λ (l : List ℤ). luma_dc_of l)
-        (f ∙ ap₂ (λ (v : ℕ) (q : List ℕ). firsts16 v site source q) w e))
+      (f ∙ ap₂ (λ (v : ℕ) (q : List ℕ). firsts16 v site source q) w e))
 
   pub luma16_levels_are : (mode : ℕ) (source plane p : List ℕ) (wide' : ℕ) (levels : List ℤ) → p ≡ prediction16 wide site mode plane → wide' ≡ wide
       → levels ≡ others16 wide' site source p → levels ≡ luma16_levels wide site mode source plane

@@ -2,6 +2,7 @@
 #![tactic(auto)]
 
 mod blocks;
+mod chroma;
 mod luma;
 mod luma16;
 mod luma4;
