@@ -7,3 +7,4 @@ pub mod InOrderLaws
 pub mod LumaLaws
 pub mod ZeroLaws
 pub mod Luma16Laws
+pub mod ChromaLaws

@@ -6,7 +6,7 @@ use Rattle.std.proofs.lemmas.List.{take-append-le, drop-append-le}
 use Rattle.enc_tables.specs.Steps.{steps}
 use Rattle.spec_built.specs.InOrder.{joined, levels_of_block, built_in_order, coded_in_order, levels_in_order}
 
-length-joined : (f : ℕ → List ℤ) (size n : ℕ) → ((b : ℕ) → length (f b) ≡ size) → length (joined f n) ≡ n * size
+pub length-joined : (f : ℕ → List ℤ) (size n : ℕ) → ((b : ℕ) → length (f b) ≡ size) → length (joined f n) ≡ n * size
 unfolding joined
 length-joined f size zero long = omega arith
 length-joined f size (suc n) long =
@@ -15,7 +15,7 @@ length-joined f size (suc n) long =
     suc_times : (n w : ℕ) → n * w + w ≡ suc n * w
     suc_times n w = grind arith
 
-in_first : (xs ys : List ℤ) (size a : ℕ) → a + size ≤ length xs → take size (drop a (xs ++ ys)) ≡ take size (drop a xs)
+pub in_first : (xs ys : List ℤ) (size a : ℕ) → a + size ≤ length xs → take size (drop a (xs ++ ys)) ≡ take size (drop a xs)
 in_first xs ys size a h =
     let short : length (drop a xs) ≡ length xs - a = grind (arith, common_steps) in
     ap (λ (l : List ℤ). take size l) (drop-append-le a xs ys (omega arith)) ∙ take-append-le size (drop a xs) ys (omega (arith, short))
@@ -23,7 +23,7 @@ in_first xs ys size a h =
 in_second : (xs ys : List ℤ) (size a : ℕ) → a ≡ length xs → length ys ≡ size → take size (drop a (xs ++ ys)) ≡ ys
 in_second xs ys size a e h = grind (arith, common_steps)
 
-before : (b n w : ℕ) → b < n → b * w + w ≤ n * w
+pub before : (b n w : ℕ) → b < n → b * w + w ≤ n * w
 before b n w h = grind arith
 
 -- block b of what was joined
