@@ -3,3 +3,4 @@ pub mod Residuals
 pub mod InOrder
 pub mod Luma
 pub mod Chroma
+pub mod Records
