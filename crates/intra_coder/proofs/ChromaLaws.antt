@@ -1,6 +1,5 @@
 -- Blocks of chroma components, step by step.
-use Rattle.std.proofs.Common.{◌≡◌, ◌≤◌, ◌<◌, ◌+◌, ◌-◌, ◌*◌, ◌/◌, ◌%◌, ◌∷◌, ◌++◌, ℕ, zero, suc, ℤ, pos, true, List, [], length, take, drop, refl, sym, ap, ap₂, ◌∙◌, arith, subst}
-use Rattle.std.proofs.lemmas.Grind.{common_steps}
+use Rattle.std.proofs.Common.{◌≡◌, ◌<◌, ◌/◌, ◌∷◌, ℕ, zero, suc, ℤ, pos, true, List, [], drop, sym, ap, ap₂, ◌∙◌, subst}
 use Rattle.spec_intra.specs.declared.NbC.{NbC}
 use Rattle.spec_intra.specs.Near.{plane_sample, neighbours_chroma}
 use Rattle.spec_intra.specs.Predictions.{predicted_chroma}
@@ -14,7 +13,7 @@ use Rattle.spec_residual.proofs.Listed.{item-listed}
 use Rattle.spec_built.specs.declared.Site.{Site}
 use Rattle.spec_built.specs.Parts.{block_at, with_block}
 use Rattle.spec_built.specs.Residuals.{built_with_dc, spectrum4, levels_without_dc}
-use Rattle.spec_built.specs.InOrder.{joined, levels_of_block, built_in_order}
+use Rattle.spec_built.specs.InOrder.{joined, built_in_order}
 use Rattle.spec_built.specs.Chroma.{chroma_qp, xc, yc, prediction_chroma, part_chroma, build_chroma, chroma_built, spectrum_chroma, chroma_dc, chroma_ac}
 use Rattle.intra_coder.specs.Made.{IsQuantised, others_chroma}
 use Rattle.intra_coder.proofs.BlockLaws.{zero_within}

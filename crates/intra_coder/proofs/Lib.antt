@@ -8,3 +8,4 @@ pub mod LumaLaws
 pub mod ZeroLaws
 pub mod Luma16Laws
 pub mod ChromaLaws
+pub mod MacroblockLaws

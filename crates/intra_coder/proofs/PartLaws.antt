@@ -1,5 +1,5 @@
 -- Rows of blocks, read and written.
-use Rattle.std.proofs.Common.{◌≡◌, ◌≤◌, ◌<◌, ◌+◌, ◌-◌, ◌*◌, ◌++◌, ℕ, List, [], length, add-one, take, drop, refl, sym, ap, ap₂, ◌∙◌, arith, append_assoc, length-drop}
+use Rattle.std.proofs.Common.{◌≡◌, ◌≤◌, ◌<◌, ◌+◌, ◌*◌, ◌++◌, ℕ, List, [], length, add-one, take, drop, refl, sym, ap, ap₂, ◌∙◌, arith, append_assoc, length-drop}
 use Rattle.std.proofs.lemmas.Grind.{common_steps}
 use Rattle.std.proofs.lemmas.List.{take-append-drop, drop-append-le, drop-drop, take-take}
 use Rattle.std.proofs.Math.Seq.{take-add}
@@ -7,7 +7,7 @@ use Rattle.picture_planes.specs.declared.plane.Plane.{Plane}
 use Rattle.picture_planes.specs.Over.{over}
 use Rattle.picture_planes.specs.Samples.{row_of, with_row, samples_of}
 use Rattle.picture_planes.proofs.SampleLaws.{row_length, samples_length, samples_written, row_of_samples, part_of_samples, before_end}
-use Rattle.spec_built.specs.Parts.{block_rows, with_rows, row_part}
+use Rattle.spec_built.specs.Parts.{block_rows, with_rows}
 
 -- one row more of what was read
 pub row_read : (out part rows : List ℕ) (start n : ℕ) → start + n ≤ length out → length part ≡ n → take start out ≡ rows

@@ -7,6 +7,7 @@ mod luma;
 mod luma16;
 mod luma4;
 mod luma8;
+mod macroblock;
 mod near;
 mod parts;
 mod places;

@@ -1,4 +1,4 @@
-use Rattle.std.proofs.Common.{ℤ, List, ◌∙◌, ap, w32}
+use Rattle.std.proofs.Common.{ℤ, ◌∙◌, ap, w32}
 use Rattle.std.proofs.lemmas.Int.{to_z-of_z}
 use mir.Val.{SFits}
 use Rattle.picture_planes.specs.Samples.{samples_of}

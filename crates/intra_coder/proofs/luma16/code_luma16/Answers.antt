@@ -1,4 +1,4 @@
-use Rattle.std.proofs.Common.{ℕ, List, true, ◌∙◌, ap, sym}
+use Rattle.std.proofs.Common.{true}
 use Rattle.picture_planes.specs.Samples.{samples_of}
 use Rattle.spec_residual.specs.declared.BlockKind.TheVariants.{LumaDc}
 use Rattle.intra_coder.proofs.BlockLaws.{made4}

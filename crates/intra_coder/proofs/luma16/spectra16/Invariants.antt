@@ -1,4 +1,4 @@
-use Rattle.std.proofs.Common.{◌≡◌, ◌*◌, ℕ, pos, true, length, set, take, replicate}
+use Rattle.std.proofs.Common.{◌≡◌, ◌*◌, pos, true, length, set, take, replicate}
 use Rattle.enc_tables.specs.Steps.{steps}
 use Rattle.picture_planes.specs.Samples.{samples_of}
 use Rattle.spec_residual.specs.Blocks.{AllWithin, item}

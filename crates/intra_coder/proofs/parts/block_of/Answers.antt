@@ -1,4 +1,4 @@
-use Rattle.std.proofs.Common.{arith, ◌≡◌, ◌≤◌, ◌<◌, ◌+◌, ◌-◌, ◌*◌, ℕ, length, refl}
+use Rattle.std.proofs.Common.{arith, ◌≡◌, ◌≤◌, ◌+◌, ◌-◌, ◌*◌, ℕ, refl}
 use native.Mathlib.Nat.{mul-le-mul_right}
 use Rattle.intra_coder.proofs.PartLaws.{list_next, rows_none}
 use Rattle.intra_coder.proofs.parts.block_of.Goals as goal
