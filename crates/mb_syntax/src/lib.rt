@@ -28,6 +28,7 @@ use modes::write_modes;
 use patterns::{write_chroma_pattern, write_luma_pattern, write_qp};
 
 /// What is known around a macroblock before it is written.
+#[derive(Clone, Copy)]
 pub struct Around<'a> {
     /// The macroblock at the left, where it is available: in the same slice and earlier (clause 6.4.8).
     pub left: Option<&'a MbRecord>,

@@ -1,0 +1,249 @@
+// Whether a macroblock can be where it is.
+ghost use Rattle.std.specs.Prelude.{◌≡◌, ◌≤◌, ◌<◌, ◌+◌, ◌*◌, ◌/◌, ◌==◌, ℕ, true, false, length, get_or, pos, slice_range, replicate, IsTrue, nat_abs};
+ghost use Rattle.enc_tables.specs.declared.records.SliceKind.{SliceKind};
+ghost use Rattle.enc_tables.specs.Kinds.{is_16x16 as whole};
+ghost use Rattle.enc_tables.specs.Records.{zero_vector, no_motion};
+ghost use Rattle.spec_contexts.specs.Near.{pointed};
+ghost use Rattle.spec_contexts.specs.Increments.{bit_of, some_level};
+ghost use Rattle.spec_syntax.specs.Blocks.{nonzero};
+ghost use Rattle.spec_macroblock.specs.Records.{IsRecord, KindFits, AreModes, NearModes, WholeFits, AreLevels, level_at, modes_used};
+ghost use Rattle.mb_syntax.specs.Around.{near_of};
+
+use cabac_contexts::{has_bit, is_16x16};
+use enc_tables::{MbKind, MbRecord, SliceKind};
+use mb_syntax::Around;
+
+fn is_i(kind: SliceKind) -> bool
+    ensures { IsTrue result → kind ≡ SliceKind.I }
+{
+    match kind {
+        SliceKind::I => true,
+        _ => false,
+    }
+}
+
+fn kind_fits(t8x8: bool, kind: MbKind, transform8: bool) -> bool
+    ensures { IsTrue result → KindFits t8x8 kind transform8 }
+{
+    match kind {
+        MbKind::Intra4 | MbKind::Intra16 => !transform8,
+        MbKind::Intra8 => t8x8 && transform8,
+        _ => false,
+    }
+}
+
+fn are_modes(modes: &[u8; 16]) -> bool
+    ensures { IsTrue result → AreModes modes.now }
+{
+    for k in 0..16 {
+        if modes[k] > 8 {
+            return false;
+        }
+    }
+    true
+}
+
+fn near_modes(near: Option<&MbRecord>) -> bool
+    ensures { IsTrue result → NearModes (pointed near.entry) }
+{
+    match near {
+        None => true,
+        Some(mb) => are_modes(&mb.modes),
+    }
+}
+
+fn used(mb: &MbRecord) -> usize
+    ensures { result ≡ modes_used mb.now }
+{
+    if is_16x16(mb.kind) {
+        return 1;
+    }
+    if mb.transform8 { 4 } else { 16 }
+}
+
+// Whether the modes from a place on are 0.
+fn modes_blank(modes: &[u8; 16], from: usize) -> bool
+    ensures { IsTrue result → (i : ℕ) → from ≤ i → get_or modes.now i 0 ≡ 0 }
+{
+    for k in from..16 {
+        if modes[k] > 0 {
+            return false;
+        }
+    }
+    true
+}
+
+fn whole_fits(mb: &MbRecord) -> bool
+    ensures { IsTrue result → WholeFits (whole mb.now.kind) mb.now }
+{
+    if !is_16x16(mb.kind) {
+        return true;
+    }
+    if mb.modes[0] > 3 {
+        return false;
+    }
+    mb.luma_cbp == 0 || mb.luma_cbp == 15
+}
+
+fn is_level(levels: &[i16], k: usize) -> bool
+    requires { k < length levels.now }
+    ensures { result ≡ nonzero (level_at levels.now k) }
+{
+    levels[k] > 0 || levels[k] < 0
+}
+
+fn is_large(levels: &[i16], k: usize) -> bool
+    requires { k < length levels.now }
+    ensures { result ≡ false → nat_abs (level_at levels.now k) ≤ 8191 }
+{
+    levels[k].unsigned_abs() > 8191
+}
+
+fn are_levels(levels: &[i16]) -> bool
+    ensures { IsTrue result → AreLevels levels.now }
+{
+    for k in 0..levels.len() {
+        if is_large(levels, k) {
+            return false;
+        }
+    }
+    true
+}
+
+fn are_zero(levels: &[i16]) -> bool
+    ensures { IsTrue result → (i : ℕ) → level_at levels.now i ≡ pos 0 }
+{
+    for k in 0..levels.len() {
+        if is_level(levels, k) {
+            return false;
+        }
+    }
+    true
+}
+
+// Levels that aren't present are 0.
+fn zero_unless(present: bool, levels: &[i16]) -> bool
+    ensures { IsTrue result → present ≡ false → (i : ℕ) → level_at levels.now i ≡ pos 0 }
+{
+    if present {
+        return true;
+    }
+    are_zero(levels)
+}
+
+fn luma_blank(mb: &MbRecord) -> bool
+    ensures { IsTrue result → (i : ℕ) → bit_of mb.now.luma_cbp (i / 64) ≡ false → level_at mb.now.luma i ≡ pos 0 }
+{
+    for k in 0..256 {
+        let present = has_bit(mb.luma_cbp, (k / 64) as u8);
+        if !present && is_level(&mb.luma, k) {
+            return false;
+        }
+    }
+    true
+}
+
+fn has_level(levels: &[i16]) -> bool
+    ensures { result ≡ some_level levels.now }
+{
+    levels.iter().any(|level| *level != 0)
+}
+
+fn some_in(mb: &MbRecord, block: u8) -> bool
+    requires { block < 4 }
+    ensures { IsTrue result → bit_of mb.now.luma_cbp block ≡ true → some_level (slice_range mb.now.luma (64 * block) (64 * block + 64)) ≡ true }
+{
+    if !has_bit(mb.luma_cbp, block) {
+        return true;
+    }
+    let start = 64 * block as usize;
+    has_level(&mb.luma[start..start + 64])
+}
+
+fn luma_some(mb: &MbRecord) -> bool
+    ensures { IsTrue result → mb.now.transform8 ≡ true → (k : ℕ) → k < 4 → bit_of mb.now.luma_cbp k ≡ true → some_level (slice_range mb.now.luma (64 * k) (64 * k + 64)) ≡ true }
+{
+    if !mb.transform8 {
+        return true;
+    }
+    for k in 0..4 {
+        if !some_in(mb, k) {
+            return false;
+        }
+    }
+    true
+}
+
+fn luma_places(mb: &MbRecord) -> bool
+    ensures { IsTrue result → whole mb.now.kind ≡ true → (b : ℕ) → level_at mb.now.luma (16 * b) ≡ pos 0 }
+{
+    if !is_16x16(mb.kind) {
+        return true;
+    }
+    for b in 0..16 {
+        if is_level(&mb.luma, 16 * b) {
+            return false;
+        }
+    }
+    true
+}
+
+/// Whether the syntax can give the macroblock where this is around it, with the QP of the macroblock before.
+pub fn is_record(mb: &MbRecord, around: &Around) -> bool
+    requires motion { mb.now.motion ≡ replicate 4 no_motion }
+    requires mvd { mb.now.mvd ≡ replicate 8 zero_vector }
+    ensures { IsTrue result → IsRecord (near_of around.now mb.now) mb.now }
+{
+    if !is_i(around.kind) {
+        return false;
+    }
+    if !kind_fits(around.t8x8, mb.kind, mb.transform8) {
+        return false;
+    }
+    if !near_modes(around.left) {
+        return false;
+    }
+    if !near_modes(around.above) {
+        return false;
+    }
+    if !are_modes(&mb.modes) {
+        return false;
+    }
+    if !modes_blank(&mb.modes, used(mb)) {
+        return false;
+    }
+    if !whole_fits(mb) {
+        return false;
+    }
+    if mb.chroma_mode > 3 || mb.luma_cbp > 15 || mb.chroma_cbp > 2 || mb.qp > 51 {
+        return false;
+    }
+    if !zero_unless(is_16x16(mb.kind), &mb.luma_dc) {
+        return false;
+    }
+    if !zero_unless(mb.chroma_cbp > 0, &mb.chroma_dc) {
+        return false;
+    }
+    if !zero_unless(mb.chroma_cbp == 2, &mb.chroma_ac) {
+        return false;
+    }
+    if !are_levels(&mb.luma_dc) {
+        return false;
+    }
+    if !are_levels(&mb.luma) {
+        return false;
+    }
+    if !are_levels(&mb.chroma_dc) {
+        return false;
+    }
+    if !are_levels(&mb.chroma_ac) {
+        return false;
+    }
+    if !luma_blank(mb) {
+        return false;
+    }
+    if !luma_some(mb) {
+        return false;
+    }
+    luma_places(mb)
+}
