@@ -2,3 +2,11 @@ pub mod OverLaws
 pub mod RowLaws
 pub mod SampleLaws
 pub mod Setting
+pub mod PaddedLemmas
+pub mod Sides
+pub mod Edging
+pub mod Placing
+pub mod Windows
+pub mod Filling
+pub mod Lending
+pub mod Blocks

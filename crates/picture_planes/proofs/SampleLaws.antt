@@ -92,7 +92,8 @@ row_of_samples p y h = rows_part p y p.height (omega arith) h
 shorter : (n m : ℕ) (zs : List ℕ) → n ≤ m → take n (take m zs) ≡ take n zs
 shorter n m zs h = grind (arith, common_steps)
 
-within : (xs : List ℕ) (i w x n : ℕ) → x + n ≤ w → take n (drop x (take w (drop i xs))) ≡ take n (drop (i + x) xs)
+-- a part of a part
+pub within : (xs : List ℕ) (i w x n : ℕ) → x + n ≤ w → take n (drop x (take w (drop i xs))) ≡ take n (drop (i + x) xs)
 within xs i w x n k =
     let e : w ≡ x + (w - x) = omega arith in
     ap (λ (m : ℕ). take n (drop x (take m (drop i xs)))) e

@@ -1,11 +1,11 @@
--- Places and sizes.
-use Rattle.std.specs.Prelude.{ℕ, ℤ, pos, negsuc, min, ◌+◌, ◌-◌, ◌*◌, ◌/◌}
-
--- the place from 0 to size - 1 that is nearest
-abbrev pub clamped_to : ℤ → ℕ → ℕ
-clamped_to (pos n) size = min n (size - 1)
-clamped_to (negsuc n) size = 0
+-- Sizes.
+use Rattle.std.specs.Prelude.{ℕ, zero, suc, ◌+◌, ◌*◌, ◌/◌}
 
 -- the least multiple of 16 that is not below n
 abbrev pub rounded : ℕ → ℕ
 rounded n = (n + 15) / 16 * 16
+
+-- the first row of a macroblock row in plane k: a macroblock has 16 rows of luma and 8 of each chroma plane
+abbrev pub top_of : ℕ → ℕ → ℕ
+top_of mb_row zero = 16 * mb_row
+top_of mb_row (suc k) = 8 * mb_row

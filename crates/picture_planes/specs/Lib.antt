@@ -2,3 +2,7 @@ pub mod Clamped
 pub mod Over
 pub mod Samples
 pub mod Pictures
+pub mod Margins
+pub mod Edges
+pub mod Placed
+pub mod Stripes

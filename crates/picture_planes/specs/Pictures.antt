@@ -1,10 +1,11 @@
 -- What a picture holds.
-use Rattle.std.specs.Prelude.{ℕ, zero, suc, List}
+use Rattle.std.specs.Prelude.{ℕ, zero, suc, List, ◌≡◌}
 use Rattle.std.specs.Borrow.{Lends, MutBor, Fml, u8, Array}
 use Rattle.picture_planes.specs.declared.plane.Plane.{Plane}
 use Rattle.picture_planes.specs.declared.picture.Picture.{Picture}
 use Rattle.picture_planes.specs.contracts.picture.Picture.{the_row}
 use Rattle.picture_planes.specs.Samples.{with_row, samples_of, SameShape}
+use Rattle.picture_planes.specs.Margins.{IsFilled}
 use Rattle.spec_film.specs.Films.{Planes}
 
 -- the plane of a number: luma, Cb, Cr
@@ -30,3 +31,11 @@ LendsPictureRow s k y r = Lends the_row (Array u8 0) s r (with_picture_row s.now
 -- the planes of new have the sizes and margins of those of old
 abbrev pub SameShapes : Picture → Picture → Type 0
 SameShapes old new = SameShape old.y new.y × SameShape old.cb new.cb × SameShape old.cr new.cr
+
+-- every byte of new is that of old, in the margins too
+abbrev pub SameBytes : Picture → Picture → Type 0
+SameBytes old new = (new.y.bytes.items ≡ old.y.bytes.items) × (new.cb.bytes.items ≡ old.cb.bytes.items) × (new.cr.bytes.items ≡ old.cr.bytes.items)
+
+-- the margins of all three planes are filled
+abbrev pub AreFilled : Picture → Type 0
+AreFilled p = IsFilled p.y × IsFilled p.cb × IsFilled p.cr

@@ -1,7 +1,7 @@
 -- What a plane holds.
 use Rattle.std.specs.Prelude.{ℕ, zero, suc, List, [], ◌++◌, slice_index, slice_range, ◌≡◌, ◌+◌, ◌*◌}
 use Rattle.std.specs.Borrow.{Lends, MutBor, Fml, u8, Array}
-use Rattle.std.specs.Vec.{with_items_from}
+use Rattle.std.specs.Vec.{with_items, with_items_from}
 use Rattle.picture_planes.specs.declared.plane.Plane.{Plane}
 use Rattle.picture_planes.specs.contracts.plane.Plane.{the_row}
 
@@ -33,6 +33,14 @@ with_row p y w = record p { bytes = with_items_from p.bytes (row_start p y) w }
 -- r is row y of s, lent for writing
 abbrev pub LendsRow : MutBor Plane → ℕ → MutBor (List ℕ) → Fml
 LendsRow s y r = Lends the_row (Array u8 0) s r (with_row s.now y)
+
+-- p with w as its whole buffer
+abbrev pub with_buffer : Plane → List ℕ → Plane
+with_buffer p w = record p { bytes = with_items p.bytes w }
+
+-- r is the whole buffer of s, lent for writing
+abbrev pub LendsBuffer : MutBor Plane → MutBor (List ℕ) → Fml
+LendsBuffer s r = Lends the_row (Array u8 0) s r (with_buffer s.now)
 
 -- new has the sizes and the margin of old
 abbrev pub SameShape : Plane → Plane → Type 0

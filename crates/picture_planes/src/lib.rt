@@ -1,11 +1,13 @@
-//! Planes of samples with a margin, and pictures of three planes.
+//! Planes of samples with a margin, pictures of three planes, and rows of pictures lent for writing.
 #![tactic(auto)]
 
 mod picture;
 mod plane;
+mod stripe;
 
 pub use picture::Picture;
 pub use plane::Plane;
+pub use stripe::Stripe;
 
 #[cfg(test)]
 mod tests {
@@ -39,6 +41,34 @@ mod tests {
             ),
             (0, 1, 2, 3, 4)
         );
+        Ok(())
+    }
+
+    #[test]
+    fn margins_hold_the_nearest_samples(rt: HostRuntime) -> Result<(), Fail> {
+        let mut plane = Plane::new(rt.alloc(), 2, 2, 1)?;
+        plane.set_rows(0, 2, &[1, 2, 3, 4]);
+        plane.pad_edges();
+        assert_eq!(rt; (plane.get(-5, -5), plane.get(5, 2)), (1, 4));
+        assert_eq!(rt; plane.padded_row(-1), [1, 1, 2, 2].as_slice());
+        assert_eq!(rt; plane.padded_row(1), [3, 3, 4, 4].as_slice());
+        assert_eq!(rt; plane.padded_row(2), [3, 3, 4, 4].as_slice());
+        assert_eq!(rt; plane.window(1, 0, 2), [1, 2].as_slice());
+        Ok(())
+    }
+
+    #[test]
+    fn parts_are_placed(rt: HostRuntime) -> Result<(), Fail> {
+        let mut picture = Picture::new(rt.alloc(), 16, 32)?;
+        let mut part = Picture::new(rt.alloc(), 16, 16)?;
+        let mut stripe = part.stripe_at(1);
+        stripe.row(1, 9).copy_from_slice(&[7; 8]);
+        assert_eq!(rt; stripe.get(1, 3, 9), 7);
+        picture.place(1, &part);
+        assert_eq!(rt; (picture.cb.get(0, 8), picture.cb.get(0, 9)), (0, 7));
+        let mut other = Picture::new(rt.alloc(), 16, 32)?;
+        other.copy_from(&picture);
+        assert_eq!(rt; other.stripe().get(1, 0, 9), 7);
         Ok(())
     }
 }

@@ -1,7 +1,7 @@
 // A plane is one buffer of rows, with a margin on each side.
-ghost use Rattle.std.specs.Prelude.{◌≡◌, ◌≤◌, ◌<◌, ◌+◌, ◌-◌, ◌*◌, ℕ, List, length, vec_len, IfOk, replicate};
+ghost use Rattle.std.specs.Prelude.{◌≡◌, ◌≢◌, ◌≤◌, ◌<◌, ◌+◌, ◌-◌, ◌*◌, ℕ, List, length, vec_len, IfOk, replicate, slice_range, drop, pos, ◌+ℤ◌, ◌≤ℤ◌, ◌<ℤ◌};
 ghost use Rattle.std.specs.Borrow.{sem};
-ghost use Rattle.picture_planes.specs.Clamped.{clamped_to};
+ghost use Rattle.spec_film.specs.Places.{clamped_to};
 ghost use Rattle.picture_planes.specs.Over.{over};
 
 use std::alloc::{AllocError as OutOfMemory, Global};
@@ -33,8 +33,21 @@ fn clamped(place: i32, size: u32) -> u32
     }
 }
 
+// The row of the buffer that has row `y` of the plane or its margin.
+fn buffer_place(y: i32, pad: u32) -> usize
+    requires low { pos 0 ≤ℤ (y +ℤ pos pad) }
+    requires high { y <ℤ pos 2400 }
+    requires pad { pad ≤ 40 }
+    ensures { pos result ≡ y +ℤ pos pad }
+{
+    (y + pad as i32) as usize
+}
+
 impl Plane {
-    ghost use Rattle.picture_planes.specs.Samples.{row_start, row_of, samples_of, at, LendsRow, SameShape};
+    ghost use Rattle.picture_planes.specs.Samples.{row_start, row_of, samples_of, at, LendsRow, LendsBuffer, SameShape};
+    ghost use Rattle.picture_planes.specs.Margins.{buffer_width, buffer_height, buffer_row, IsFilled, IsInMargin, HoldsNearest, IsWindow, IsBlock, IsNearestWindow, LendsBufferRow};
+    ghost use Rattle.picture_planes.specs.Edges.{with_sides, OneRow, Edged};
+    ghost use Rattle.picture_planes.specs.Placed.{RowsPlaced};
 
     /// A plane whose samples are 0, in the margin too. Width is from 1 to 4096, height from 1 to 2304 and `pad` at
     /// most 40.
@@ -90,6 +103,16 @@ impl Plane {
         self.bytes.slice_mut(start..end)
     }
 
+    /// Lends all rows with their margins for writing, as one buffer: the sample at column `x` of row `y` stands at
+    /// `(y + pad) * (width + 2 * pad) + pad + x`.
+    pub fn buffer_mut(&mut self) -> &mut [u8]
+        ensures* writes_back { sem 𝓛 (LendsBuffer self.entry result) }
+        ensures value { result.now ≡ self.old.bytes.items }
+        ensures len { length result.now ≡ (self.old.width + 2 * self.old.pad) * (self.old.height + 2 * self.old.pad) }
+    {
+        self.bytes.as_mut_slice()
+    }
+
     /// Writes `rows` whole rows from row `first` on: `samples` has them one after another, without margins.
     pub fn set_rows(&mut self, first: u32, rows: u32, samples: &[u8])
         requires rows { first + rows ≤ self.old.height }
@@ -104,5 +127,132 @@ impl Plane {
             self.row_mut(first + k)
                 .copy_from_slice(&samples[start..end]);
         }
+    }
+
+    /// Takes over all rows of another plane of the same width, from row `first` on; all other samples stay.
+    pub fn place(&mut self, first: u32, other: &Plane)
+        requires room { first + other.now.height ≤ self.old.height }
+        requires width { other.now.width ≡ self.old.width }
+        ensures rows { RowsPlaced first other.now.height other.now self.old self.new }
+        ensures samples { samples_of self.new ≡ over (samples_of self.old) (first * self.old.width) (samples_of other.now) }
+    {
+        for y in 0..other.height {
+            self.row_mut(first + y).copy_from_slice(other.row(y));
+        }
+    }
+
+    /// Makes all samples, and the margin's too, those of `other`, whose sizes and margin are the same.
+    pub fn copy_from(&mut self, other: &Plane)
+        requires { SameShape other.now self.old }
+        ensures shape { SameShape self.old self.new }
+        ensures bytes { self.new.bytes.items ≡ other.now.bytes.items }
+        ensures samples { samples_of self.new ≡ samples_of other.now }
+        ensures filled { IsFilled other.now → IsFilled self.new }
+    {
+        self.bytes.copy_from_slice(other.bytes.as_slice());
+    }
+
+    /// Row `y` with its margins, for `y` within the margin. Inside the plane it holds the samples that `get` gives, and
+    /// in the margins too once they are filled.
+    pub fn padded_row(&self, y: i32) -> &[u8]
+        requires { IsInMargin self.now y }
+        ensures len { length result.now ≡ buffer_width self.now }
+        ensures inside { (pos 0 ≤ℤ y) × (y <ℤ pos self.now.height) → HoldsNearest self.now y result.now self.now.pad (self.now.pad + self.now.width) }
+        ensures filled { IsFilled self.now → HoldsNearest self.now y result.now 0 (buffer_width self.now) }
+    {
+        let row = buffer_place(y, self.pad);
+        let width = (self.width + 2 * self.pad) as usize;
+        self.window(0, row, width)
+    }
+
+    /// `count` bytes of the buffer's row `row` from column `column` on; columns and rows are counted from the margin's
+    /// corner. They are samples that `get` gives once the margin is filled.
+    pub fn window(&self, column: usize, row: usize, count: usize) -> &[u8]
+        requires down { row < buffer_height self.now }
+        requires across { column + count ≤ buffer_width self.now }
+        ensures len { length result.now ≡ count }
+        ensures list { result.now ≡ slice_range self.now.bytes.items (row * buffer_width self.now + column) (row * buffer_width self.now + column + count) }
+        ensures value { IsWindow self.now column row count result.now }
+        ensures filled { IsFilled self.now → IsNearestWindow self.now column row count result.now }
+    {
+        let start = row * (self.width + 2 * self.pad) as usize + column;
+        &self.bytes[start..start + count]
+    }
+
+    /// The buffer's bytes from column `column` of row `row` on to its end, row after row; columns and rows are counted
+    /// from the margin's corner.
+    #[inline(always)]
+    pub fn rows_from(&self, column: usize, row: usize) -> &[u8]
+        requires down { row < buffer_height self.now }
+        requires across { column < buffer_width self.now }
+        ensures list { result.now ≡ drop (row * buffer_width self.now + column) self.now.bytes.items }
+        ensures value { IsBlock self.now column row result.now }
+        ensures len { (w h : ℕ) → column + w ≤ buffer_width self.now → row + h ≤ buffer_height self.now → 0 < h → (h - 1) * buffer_width self.now + w ≤ length result.now }
+    {
+        let start = row * (self.width + 2 * self.pad) as usize + column;
+        &self.bytes[start..]
+    }
+
+    // Lends a row of the buffer, margins and all.
+    fn buffer_row_mut(&mut self, row: usize) -> &mut [u8]
+        requires { row < buffer_height self.old }
+        ensures* writes_back { sem 𝓛 (LendsBufferRow self.entry row result) }
+        ensures value { result.now ≡ buffer_row self.old row }
+        ensures len { length result.now ≡ buffer_width self.old }
+    {
+        let width = (self.width + 2 * self.pad) as usize;
+        let start = row * width;
+        let end = start + width;
+        self.bytes.slice_mut(start..end)
+    }
+
+    // Fills the margins of a row of the buffer.
+    fn pad_row(&mut self, row: usize)
+        requires { row < buffer_height self.old }
+        ensures { OneRow row (with_sides self.old.pad self.old.width (buffer_row self.old row)) self.old self.new }
+    {
+        let pad = self.pad as usize;
+        let width = self.width as usize;
+        let samples = self.buffer_row_mut(row);
+        let first = samples[pad];
+        let last = samples[pad + width - 1];
+        samples[..pad].fill(first);
+        samples[pad + width..].fill(last);
+    }
+
+    // Makes one row of the buffer another.
+    fn copy_row(&mut self, from: usize, to: usize)
+        requires { (from < buffer_height self.old) × (to < buffer_height self.old) × (from ≢ to) }
+        ensures { OneRow to (buffer_row self.old from) self.old self.new }
+    {
+        let width = (self.width + 2 * self.pad) as usize;
+        let start = from * width;
+        self.bytes.copy_within(start..start + width, to * width);
+    }
+
+    // Fills the margin, row by row.
+    fn pad_rows(&mut self)
+        ensures { Edged self.old.pad (self.old.pad + self.old.height) (buffer_height self.old) self.old self.new }
+    {
+        let pad = self.pad as usize;
+        let height = self.height as usize;
+        for y in pad..pad + height {
+            self.pad_row(y);
+        }
+        for above in 0..pad {
+            self.copy_row(pad, above);
+        }
+        for below in pad + height..height + 2 * pad {
+            self.copy_row(pad + height - 1, below);
+        }
+    }
+
+    /// Fills the margin: each place in it gets the sample of the nearest place of the plane. The samples stay.
+    pub fn pad_edges(&mut self)
+        ensures shape { SameShape self.old self.new }
+        ensures filled { IsFilled self.new }
+        ensures samples { samples_of self.new ≡ samples_of self.old }
+    {
+        self.pad_rows();
     }
 }

@@ -1,0 +1,9 @@
+pub mod Weak
+pub mod Kept
+pub mod Tables
+pub mod Folds
+pub mod Intra
+pub mod Rooms
+pub mod Shown
+pub mod Crops
+pub mod Filtered

@@ -1,0 +1,9 @@
+pub mod PartLaws
+pub mod BlockLaws
+pub mod NearLaws
+pub mod Gathered
+pub mod Standing
+pub mod InOrderLaws
+pub mod LumaLaws
+pub mod ZeroLaws
+pub mod Luma16Laws

@@ -1,0 +1,57 @@
+-- The quantiser makes 0 of 0.
+use Rattle.std.proofs.Common.{◌≡◌, ◌≤◌, ◌<◌, ◌+◌, ◌*◌, ◌/◌, ◌^◌, ℕ, zero, suc, ℤ, pos, true, List, set, replicate, length, get_or, refl, sym, ap, ◌∙◌, arith, subst, inl, inr}
+use Rattle.std.proofs.Math.Nat.{div-eq_of_lt}
+use Rattle.std.proofs.lemmas.Bool.{cases_lt}
+use Rattle.std.proofs.lemmas.Grind.{get_or-set_at}
+use Rattle.std.proofs.lemmas.List.{get_or-set_other}
+use Rattle.std.proofs.lemmas.Int.{ints}
+use Rattle.std.proofs.lemmas.Nat.{pow-add, pow_pos}
+use Rattle.spec_residual.specs.declared.BlockKind.{BlockKind}
+use Rattle.spec_residual.specs.declared.BlockKind.TheVariants.{Luma4, Luma8, LumaDc, Chroma4, ChromaDc}
+use Rattle.spec_residual.specs.Blocks.{Within, item}
+use Rattle.spec_residual.specs.Levels.{IsMade, greatest, level_of, multiplier, rounding, share, shift, signed_level}
+use Rattle.intra_coder.proofs.BlockLaws.{zero_within, item_of_zeros}
+
+none_of : (m f s : ℕ) → f < 2 ^ s → signed_level m f s (pos 0) ≡ pos 0
+none_of m f s h =
+    let none : 0 * m + f ≡ f = omega arith in
+    ap (λ (n : ℕ). pos (n / 2 ^ s)) none ∙ ap (λ (n : ℕ). pos n) (div-eq_of_lt h)
+
+third : (k : ℕ) → 2 ^ k / 3 < 2 ^ k
+third k = let p : 0 < 2 ^ k = pow_pos k in omega arith
+
+double : (k : ℕ) → 2 * (2 ^ (15 + k) / 3) < 2 ^ (16 + k)
+double k =
+    let p : 0 < 2 ^ (15 + k) = pow_pos (15 + k) in
+    let q : 2 ^ (16 + k) ≡ 2 * 2 ^ (15 + k) = ap (λ (n : ℕ). 2 ^ n) (let e : 16 + k ≡ 1 + (15 + k) = omega arith in e) ∙ pow-add 2 1 (15 + k) in
+    omega arith
+
+pub level_of_none : (kind : BlockKind) (qp p : ℕ) → level_of kind true qp p (pos 0) ≡ pos 0
+unfolding level_of rounding shift
+level_of_none Luma4 qp p = none_of (multiplier Luma4 qp p) _ _ (third (15 + qp / 6))
+level_of_none Luma8 qp p = none_of (multiplier Luma8 qp p) _ _ (third (16 + qp / 6))
+level_of_none LumaDc qp p = none_of (multiplier LumaDc qp p) _ _ (double (qp / 6))
+level_of_none Chroma4 qp p = none_of (multiplier Chroma4 qp p) _ _ (third (15 + qp / 6))
+level_of_none ChromaDc qp p = none_of (multiplier ChromaDc qp p) _ _ (double (qp / 6))
+
+pub zero_made : (kind : BlockKind) (qp p : ℕ) → IsMade kind true qp p (pos 0)
+zero_made kind qp p = record { coefficient = pos 0; small = zero_within (greatest kind); made = sym (level_of_none kind qp p) }
+
+-- where each level was made, and one more is written
+pub zeros_made : (kind : BlockKind) (qp n p : ℕ) → IsMade kind true qp p (item (replicate n (pos 0)) p)
+zeros_made kind qp n p = let P : ℤ → Type 0 = λ z. IsMade kind true qp p z in subst P (sym (item_of_zeros n p)) (zero_made kind qp p)
+
+pub set_made : (kind : BlockKind) (qp i : ℕ) (v : ℤ) (c : List ℤ) → i < length c → IsMade kind true qp i v → ((p : ℕ) → IsMade kind true qp p (item c p)) → (p : ℕ) → IsMade kind true qp p (item (set c i v) p)
+set_made kind qp i v c inside is all p =
+    let P : ℤ → Type 0 = λ z. IsMade kind true qp p z in
+    elim (cases_lt p i) [
+      | inl l ↦ subst P (sym (get_or-set_other c i p v (pos 0) (λ z. absurd (omega arith)))) (all p)
+      | inr g ↦
+          (elim (cases_lt i p) [
+            | inl l ↦ subst P (sym (get_or-set_other c i p v (pos 0) (λ z. absurd (omega arith)))) (all p)
+            | inr l ↦
+                (let e : p ≡ i = omega arith in
+                let Q : ℕ → Type 0 = λ m. IsMade kind true qp m v in
+                subst P (sym (get_or-set_at c i p v (pos 0) e inside)) (subst Q (sym e) is))
+          ])
+    ]

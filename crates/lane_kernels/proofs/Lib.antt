@@ -1,0 +1,4 @@
+pub mod Apart
+pub mod Chunks
+pub mod BlockRows
+pub mod TapLanes

@@ -1,0 +1,6 @@
+//! What is planned for a row of macroblocks before it is coded: the best intra modes and their costs.
+#![tactic(auto)]
+
+mod blocks;
+mod difference;
+mod modes;

@@ -1,0 +1,4 @@
+pub mod NearLaws
+pub mod Gathered
+pub mod PartLaws
+pub mod AvailLaws

@@ -1,0 +1,7 @@
+pub mod Parts
+pub mod Residuals
+pub mod InOrder
+pub mod Luma
+pub mod Chroma
+pub mod Macroblocks
+pub mod Slices
