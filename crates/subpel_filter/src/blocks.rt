@@ -27,7 +27,8 @@ pub fn whole_block<const W: usize>(
 {
     for j in 0..h {
         let samples = plane.window(column + k, row + j + l, W);
-        rows::copied(samples, &mut out[j * W..j * W + W]);
+        let made = rows::taken::<W>(samples);
+        rows::copied(&made, &mut out[j * W..j * W + W]);
     }
 }
 
@@ -48,7 +49,8 @@ pub fn across_block<const W: usize>(
 {
     for j in 0..h {
         let samples = plane.window(column, row + j + l, W + 5);
-        rows::halves(samples, &mut out[j * W..j * W + W]);
+        let made = rows::halves::<W>(samples);
+        rows::copied(&made, &mut out[j * W..j * W + W]);
     }
 }
 
@@ -74,7 +76,8 @@ pub fn down_block<const W: usize>(
         let d = plane.window(column + k, row + j + 3, W);
         let e = plane.window(column + k, row + j + 4, W);
         let f = plane.window(column + k, row + j + 5, W);
-        rows::halves_down(a, b, c, d, e, f, &mut out[j * W..j * W + W]);
+        let made = rows::halves_down::<W>(a, b, c, d, e, f);
+        rows::copied(&made, &mut out[j * W..j * W + W]);
     }
 }
 
@@ -113,14 +116,14 @@ pub fn middle_block<const W: usize>(
     let mut raw = [0u16; 336];
     raw_block::<W>(plane, column, row, h + 5, &mut raw);
     for j in 0..h {
-        rows::middles(
+        let made = rows::middles::<W>(
             &raw[j * W..j * W + W],
             &raw[(j + 1) * W..(j + 1) * W + W],
             &raw[(j + 2) * W..(j + 2) * W + W],
             &raw[(j + 3) * W..(j + 3) * W + W],
             &raw[(j + 4) * W..(j + 4) * W + W],
             &raw[(j + 5) * W..(j + 5) * W + W],
-            &mut out[j * W..j * W + W],
         );
+        rows::copied(&made, &mut out[j * W..j * W + W]);
     }
 }
