@@ -41,7 +41,8 @@ fn middle_of(a: u16, b: u16, c: u16, d: u16, e: u16, f: u16) -> u8
 #[inline(always)]
 pub fn copied(a: &[u8], out: &mut [u8])
     requires { length a.now ≡ length out.old }
-    ensures { (i : ℕ) → i < length out.old → slice_index out.new i ≡ slice_index a.now i }
+    ensures list { out.new ≡ a.now }
+    ensures value { (i : ℕ) → i < length out.old → slice_index out.new i ≡ slice_index a.now i }
 {
     out.copy_from_slice(a);
 }
@@ -50,7 +51,8 @@ pub fn copied(a: &[u8], out: &mut [u8])
 #[inline(always)]
 pub fn taken<const W: usize>(a: &[u8]) -> [u8; W]
     requires { length a.now ≡ W }
-    ensures { (i : ℕ) → i < W → slice_index result i ≡ slice_index a.now i }
+    ensures len { length result ≡ W }
+    ensures value { (i : ℕ) → i < W → slice_index result i ≡ slice_index a.now i }
 {
     let mut row = [0u8; W];
     row.copy_from_slice(a);
