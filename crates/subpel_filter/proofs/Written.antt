@@ -8,12 +8,12 @@ use borrow.Rule.Slice.PartMut.{put_mid, mid_of}
 use Rattle.picture_planes.specs.declared.plane.Plane.{Plane}
 use Rattle.picture_planes.specs.Margins.{buffer_at, IsWindow}
 use Rattle.spec_inter.specs.Taps.{mean}
-use Rattle.spec_inter.specs.Luma.{along}
+use Rattle.spec_inter.specs.Luma.{firsts, seconds, quarter_of, along}
 use Rattle.subpel_filter.specs.Rows.{middle, half_at, half_down, RawOf}
 use Rattle.spec_inter.specs.Blocks.{RowsHold}
 use Rattle.subpel_filter.proofs.Halves.{half_twice_up}
 use Rattle.spec_inter.specs.declared.Position.TheVariants.{Middle}
-use Rattle.subpel_filter.specs.Near.{near_at, eighth_in, position_at, across_at, whole_at, down_at, RawAt}
+use Rattle.subpel_filter.specs.Near.{near_at, quarter_at, eighth_in, position_at, across_at, whole_at, down_at, RawAt}
 
 part_below : (xs ys : List ℕ) (a k i : ℕ) → a ≤ length xs → i < a → get_or (put_mid a k xs ys) i 0 ≡ get_or xs i 0
 part_below xs ys a k i p q = search (rules, places)
@@ -168,3 +168,38 @@ eighth_row p u v c r n i j h0 h1 h2 h3 xs ys hx hy lt e0 e1 e2 e3 =
 -- a block in other words
 pub block_same : (f g : ℕ → ℕ → ℕ) (w w' h : ℕ) (xs : List ℕ) → RowsHold (λ i j v. v ≡ f i j) w h xs → w' ≡ w → ((i j : ℕ) → i < w → j < h → f i j ≡ g i j) → RowsHold (λ i j v. v ≡ g i j) w' h xs
 block_same f g w w' h xs r e same = subst (λ (n : ℕ). RowsHold (λ i j v. v ≡ g i j) n h xs) (sym e) (record { at = λ i j p q. r.at i j p q ∙ same i j p q })
+
+put_length : (xs ys : List ℕ) (a w : ℕ) → a + w ≤ length xs → length ys ≡ w → length (put_mid a (a + w - a) xs ys) ≡ length xs
+put_length xs ys a w h e = grind (arith, common_steps)
+
+-- four rows more of a block in 256 places
+pub block_four : (P : ℕ → ℕ → ℕ → Type 0) (w h j m : ℕ) (xs y0 y1 y2 y3 : List ℕ) → RowsHold P w j xs → length xs ≡ 256 → j + 4 ≡ m → j + 3 < h → w ≤ 16 → h ≤ 16
+    → length y0 ≡ w → length y1 ≡ w → length y2 ≡ w → length y3 ≡ w
+    → ((i : ℕ) → i < w → P i j (get_or y0 i 0)) → ((i : ℕ) → i < w → P i (j + 1) (get_or y1 i 0)) → ((i : ℕ) → i < w → P i (j + 2) (get_or y2 i 0)) → ((i : ℕ) → i < w → P i (j + 3) (get_or y3 i 0))
+    → RowsHold P w m (put_mid ((j + 3) * w) ((j + 3) * w + w - (j + 3) * w) (put_mid ((j + 2) * w) ((j + 2) * w + w - (j + 2) * w) (put_mid ((j + 1) * w) ((j + 1) * w + w - (j + 1) * w) (put_mid (j * w) (j * w + w - j * w) xs y0) y1) y2) y3)
+block_four P w h j m xs y0 y1 y2 y3 r len next lt narrow low l0 l1 l2 l3 p0 p1 p2 p3 =
+    let room0 : j * w + w ≤ 256 = row_room j h 16 w (omega arith) low narrow in
+    let room1 : (j + 1) * w + w ≤ 256 = row_room (j + 1) h 16 w (omega arith) low narrow in
+    let room2 : (j + 2) * w + w ≤ 256 = row_room (j + 2) h 16 w (omega arith) low narrow in
+    let room3 : (j + 3) * w + w ≤ 256 = row_room (j + 3) h 16 w (omega arith) low narrow in
+    let x0 : List ℕ = put_mid (j * w) (j * w + w - j * w) xs y0 in
+    let x1 : List ℕ = put_mid ((j + 1) * w) ((j + 1) * w + w - (j + 1) * w) x0 y1 in
+    let x2 : List ℕ = put_mid ((j + 2) * w) ((j + 2) * w + w - (j + 2) * w) x1 y2 in
+    let n0 : length x0 ≡ 256 = put_length xs y0 (j * w) w (omega (arith, room0, len)) l0 ∙ len in
+    let n1 : length x1 ≡ 256 = put_length x0 y1 ((j + 1) * w) w (omega (arith, room1, n0)) l1 ∙ n0 in
+    let n2 : length x2 ≡ 256 = put_length x1 y2 ((j + 2) * w) w (omega (arith, room2, n1)) l2 ∙ n1 in
+    let r0 = rows_more P w j (j * w + w - j * w) xs y0 r l0 (omega (arith, room0, len)) p0 in
+    let r1 : RowsHold P w (j + 2) x1 = one_more x1 (rows_more P w (j + 1) ((j + 1) * w + w - (j + 1) * w) x0 y1 r0 l1 (omega (arith, room1, n0)) p1) (omega arith) in
+    let r2 : RowsHold P w (j + 3) x2 = one_more x2 (rows_more P w (j + 2) ((j + 2) * w + w - (j + 2) * w) x1 y2 r1 l2 (omega (arith, room2, n1)) p2) (omega arith) in
+    one_more _ (rows_more P w (j + 3) ((j + 3) * w + w - (j + 3) * w) x2 y3 r2 l3 (omega (arith, room3, n2)) p3) (omega (arith, next))
+  where
+    one_more : {n m : ℕ} (zs : List ℕ) → RowsHold P w n zs → n ≡ m → RowsHold P w m zs
+    one_more zs h e = subst (λ (k : ℕ). RowsHold P w k zs) e h
+
+-- at a whole sample position both samples are the sample itself
+pub none_across : (p : Plane) (x y c r i j : ℕ) → x ≡ 0 → y ≡ 0 → whole_at p 2 2 c r i j ≡ quarter_at p x y c r i j
+unfolding whole_at quarter_at firsts seconds
+none_across p x y c r i j a b = itself (near_at p (c + i) (r + j) 2 2) ∙ sym (ap₂ (λ (u v : ℕ). quarter_of (near_at p (c + i) (r + j)) u v) a b)
+  where
+    itself : (g : ℕ) → g ≡ mean g g
+    itself g = omega arith

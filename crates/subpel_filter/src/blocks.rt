@@ -1,6 +1,6 @@
 // Blocks of samples at whole and half sample positions. The width is known when the program is built, so that each row
 // is a few steps on whole vectors.
-ghost use Rattle.std.specs.Prelude.{◌≡◌, ◌≤◌, ◌<◌, ◌+◌, ◌*◌, ℕ};
+ghost use Rattle.std.specs.Prelude.{◌≡◌, ◌≤◌, ◌<◌, ◌+◌, ◌*◌, ◌%◌, ℕ};
 ghost use Rattle.picture_planes.specs.Margins.{buffer_width, buffer_height};
 ghost use Rattle.spec_inter.specs.Blocks.{RowsOf, RowsHold};
 ghost use Rattle.spec_inter.specs.declared.Position.TheVariants.{Middle};
@@ -9,7 +9,7 @@ ghost use Rattle.subpel_filter.specs.Near.{across_at, down_at, whole_at, positio
 use crate::rows;
 use picture_planes::Plane;
 
-// The samples of a block whose surroundings begin at a column and a row of the buffer.
+// The samples of a block whose surroundings begin at a column and a row of the buffer, four rows at a time.
 pub fn whole_block<const W: usize>(
     plane: &Plane,
     k: usize,
@@ -20,14 +20,22 @@ pub fn whole_block<const W: usize>(
     out: &mut [u8; 256],
 )
     requires size { (W ≤ 16) × (h ≤ 16) }
+    requires fours { h % 4 ≡ 0 }
     requires place { (k ≤ 5) × (l ≤ 5) }
     requires across { column + W + 5 ≤ buffer_width plane.now }
     requires down { row + h + 5 ≤ buffer_height plane.now }
     ensures { RowsOf (whole_at plane.now k l column row) W h out.new }
 {
-    for j in 0..h {
-        let samples = plane.window(column + k, row + j + l, W);
-        rows::copied(samples, &mut out[j * W..j * W + W]);
+    for q in 0..h / 4 {
+        let j = 4 * q;
+        let first = rows::taken::<W>(plane.window(column + k, row + j + l, W));
+        let second = rows::taken::<W>(plane.window(column + k, row + (j + 1) + l, W));
+        let third = rows::taken::<W>(plane.window(column + k, row + (j + 2) + l, W));
+        let fourth = rows::taken::<W>(plane.window(column + k, row + (j + 3) + l, W));
+        rows::copied(&first, &mut out[j * W..j * W + W]);
+        rows::copied(&second, &mut out[(j + 1) * W..(j + 1) * W + W]);
+        rows::copied(&third, &mut out[(j + 2) * W..(j + 2) * W + W]);
+        rows::copied(&fourth, &mut out[(j + 3) * W..(j + 3) * W + W]);
     }
 }
 
@@ -48,7 +56,8 @@ pub fn across_block<const W: usize>(
 {
     for j in 0..h {
         let samples = plane.window(column, row + j + l, W + 5);
-        rows::halves(samples, &mut out[j * W..j * W + W]);
+        let made = rows::halves::<W>(samples);
+        rows::copied(&made, &mut out[j * W..j * W + W]);
     }
 }
 
@@ -74,7 +83,8 @@ pub fn down_block<const W: usize>(
         let d = plane.window(column + k, row + j + 3, W);
         let e = plane.window(column + k, row + j + 4, W);
         let f = plane.window(column + k, row + j + 5, W);
-        rows::halves_down(a, b, c, d, e, f, &mut out[j * W..j * W + W]);
+        let made = rows::halves_down::<W>(a, b, c, d, e, f);
+        rows::copied(&made, &mut out[j * W..j * W + W]);
     }
 }
 
@@ -113,14 +123,14 @@ pub fn middle_block<const W: usize>(
     let mut raw = [0u16; 336];
     raw_block::<W>(plane, column, row, h + 5, &mut raw);
     for j in 0..h {
-        rows::middles(
+        let made = rows::middles::<W>(
             &raw[j * W..j * W + W],
             &raw[(j + 1) * W..(j + 1) * W + W],
             &raw[(j + 2) * W..(j + 2) * W + W],
             &raw[(j + 3) * W..(j + 3) * W + W],
             &raw[(j + 4) * W..(j + 4) * W + W],
             &raw[(j + 5) * W..(j + 5) * W + W],
-            &mut out[j * W..j * W + W],
         );
+        rows::copied(&made, &mut out[j * W..j * W + W]);
     }
 }

@@ -1,5 +1,5 @@
 // Blocks of luma samples at quarter sample positions.
-ghost use Rattle.std.specs.Prelude.{◌≡◌, ◌≤◌, ◌<◌, ◌+◌, ◌*◌, ℕ};
+ghost use Rattle.std.specs.Prelude.{◌≡◌, ◌≤◌, ◌<◌, ◌+◌, ◌*◌, ◌%◌, ℕ};
 ghost use Rattle.picture_planes.specs.Margins.{buffer_width, buffer_height};
 ghost use Rattle.spec_inter.specs.Blocks.{RowsOf};
 ghost use Rattle.spec_inter.specs.Luma;
@@ -73,6 +73,7 @@ fn position_block<const W: usize>(
     out: &mut [u8; 256],
 )
     requires size { (W ≤ 16) × (h ≤ 16) }
+    requires fours { h % 4 ≡ 0 }
     requires across { column + W + 5 ≤ buffer_width plane.now }
     requires down { row + h + 5 ≤ buffer_height plane.now }
     ensures { RowsOf (position_at plane.now position column row) W h out.new }
@@ -89,6 +90,29 @@ fn position_block<const W: usize>(
     }
 }
 
+// The mean of the two blocks whose mean stands at quarter fractions x and y.
+fn mean_block<const W: usize>(
+    plane: &Plane,
+    x: usize,
+    y: usize,
+    column: usize,
+    row: usize,
+    h: usize,
+    out: &mut [u8; 256],
+)
+    requires fraction { (x < 4) × (y < 4) }
+    requires size { (W ≤ 16) × (h ≤ 16) }
+    requires fours { h % 4 ≡ 0 }
+    requires across { column + W + 5 ≤ buffer_width plane.now }
+    requires down { row + h + 5 ≤ buffer_height plane.now }
+    ensures { RowsOf (quarter_at plane.now x y column row) W h out.new }
+{
+    position_block::<W>(plane, first_of(x, y), column, row, h, out);
+    let mut other = [0u8; 256];
+    position_block::<W>(plane, second_of(x, y), column, row, h, &mut other);
+    rows::averaged(&other, W * h, out);
+}
+
 // The block at quarter fractions x and y.
 pub fn quarter_block<const W: usize>(
     plane: &Plane,
@@ -101,15 +125,18 @@ pub fn quarter_block<const W: usize>(
 )
     requires fraction { (x < 4) × (y < 4) }
     requires size { (W ≤ 16) × (h ≤ 16) }
+    requires fours { h % 4 ≡ 0 }
     requires across { column + W + 5 ≤ buffer_width plane.now }
     requires down { row + h + 5 ≤ buffer_height plane.now }
     ensures { RowsOf (quarter_at plane.now x y column row) W h out.new }
 {
-    position_block::<W>(plane, first_of(x, y), column, row, h, out);
-    if x % 2 == 0 && y % 2 == 0 {
+    if x == 0 && y == 0 {
+        whole_block::<W>(plane, 2, 2, column, row, h, out);
         return;
     }
-    let mut other = [0u8; 256];
-    position_block::<W>(plane, second_of(x, y), column, row, h, &mut other);
-    rows::averaged(&other, W * h, out);
+    if x % 2 == 0 && y % 2 == 0 {
+        position_block::<W>(plane, first_of(x, y), column, row, h, out);
+        return;
+    }
+    mean_block::<W>(plane, x, y, column, row, h, out);
 }

@@ -31,8 +31,9 @@ fn middle_of(a: u16, b: u16, c: u16, d: u16, e: u16, f: u16) -> u8
     requires high { (d ≤ 13260) × (e ≤ 13260) × (f ≤ 13260) }
     ensures { result ≡ middle a b c d e f }
 {
-    let up = a as u32 + 20 * (c as u32 + d as u32) + f as u32 + 512;
-    let down = 5 * (b as u32 + e as u32) + 81600;
+    let (outer, near, inner) = (a + f, b + e, c + d);
+    let up = outer as u32 + 20 * inner as u32 + 512;
+    let down = 5 * near as u32 + 81600;
     (up.saturating_sub(down) / 1024).min(255) as u8
 }
 
@@ -40,20 +41,35 @@ fn middle_of(a: u16, b: u16, c: u16, d: u16, e: u16, f: u16) -> u8
 #[inline(always)]
 pub fn copied(a: &[u8], out: &mut [u8])
     requires { length a.now ≡ length out.old }
-    ensures { (i : ℕ) → i < length out.old → slice_index out.new i ≡ slice_index a.now i }
+    ensures list { out.new ≡ a.now }
+    ensures value { (i : ℕ) → i < length out.old → slice_index out.new i ≡ slice_index a.now i }
 {
     out.copy_from_slice(a);
 }
 
+// A row of samples by value: what is made of it can be written without regard to where it stands.
+#[inline(always)]
+pub fn taken<const W: usize>(a: &[u8]) -> [u8; W]
+    requires { length a.now ≡ W }
+    ensures len { length result ≡ W }
+    ensures value { (i : ℕ) → i < W → slice_index result i ≡ slice_index a.now i }
+{
+    let mut row = [0u8; W];
+    row.copy_from_slice(a);
+    row
+}
+
 // The half samples along a row.
 #[inline(always)]
-pub fn halves(a: &[u8], out: &mut [u8])
-    requires { length a.now ≡ length out.old + 5 }
-    ensures { HalvesOf a.now out.new (length out.old) }
+pub fn halves<const W: usize>(a: &[u8]) -> [u8; W]
+    requires { length a.now ≡ W + 5 }
+    ensures { HalvesOf a.now result W }
 {
-    for i in 0..out.len() {
-        out[i] = half_of(a[i], a[i + 1], a[i + 2], a[i + 3], a[i + 4], a[i + 5]);
+    let mut row = [0u8; W];
+    for i in 0..W {
+        row[i] = half_of(a[i], a[i + 1], a[i + 2], a[i + 3], a[i + 4], a[i + 5]);
     }
+    row
 }
 
 // The taps along a row, not rounded.
@@ -69,28 +85,46 @@ pub fn raws(a: &[u8], out: &mut [u16])
 
 // The half samples down six rows.
 #[inline(always)]
-pub fn halves_down(a: &[u8], b: &[u8], c: &[u8], d: &[u8], e: &[u8], f: &[u8], out: &mut [u8])
-    requires first { (length a.now ≡ length out.old) × (length b.now ≡ length out.old) × (length c.now ≡ length out.old) }
-    requires last { (length d.now ≡ length out.old) × (length e.now ≡ length out.old) × (length f.now ≡ length out.old) }
-    ensures { (i : ℕ) → i < length out.old → slice_index out.new i ≡ half_down a.now b.now c.now d.now e.now f.now i }
+pub fn halves_down<const W: usize>(
+    a: &[u8],
+    b: &[u8],
+    c: &[u8],
+    d: &[u8],
+    e: &[u8],
+    f: &[u8],
+) -> [u8; W]
+    requires first { (length a.now ≡ W) × (length b.now ≡ W) × (length c.now ≡ W) }
+    requires last { (length d.now ≡ W) × (length e.now ≡ W) × (length f.now ≡ W) }
+    ensures { (i : ℕ) → i < W → slice_index result i ≡ half_down a.now b.now c.now d.now e.now f.now i }
 {
-    for i in 0..out.len() {
-        out[i] = half_of(a[i], b[i], c[i], d[i], e[i], f[i]);
+    let mut row = [0u8; W];
+    for i in 0..W {
+        row[i] = half_of(a[i], b[i], c[i], d[i], e[i], f[i]);
     }
+    row
 }
 
 // The half samples down six rows of taps that aren't rounded.
 #[inline(always)]
-pub fn middles(a: &[u16], b: &[u16], c: &[u16], d: &[u16], e: &[u16], f: &[u16], out: &mut [u8])
-    requires first { (length a.now ≡ length out.old) × (length b.now ≡ length out.old) × (length c.now ≡ length out.old) }
-    requires last { (length d.now ≡ length out.old) × (length e.now ≡ length out.old) × (length f.now ≡ length out.old) }
-    requires low { AreRaw a.now (length out.old) × AreRaw b.now (length out.old) × AreRaw c.now (length out.old) }
-    requires high { AreRaw d.now (length out.old) × AreRaw e.now (length out.old) × AreRaw f.now (length out.old) }
-    ensures { (i : ℕ) → i < length out.old → slice_index out.new i ≡ middle_down a.now b.now c.now d.now e.now f.now i }
+pub fn middles<const W: usize>(
+    a: &[u16],
+    b: &[u16],
+    c: &[u16],
+    d: &[u16],
+    e: &[u16],
+    f: &[u16],
+) -> [u8; W]
+    requires first { (length a.now ≡ W) × (length b.now ≡ W) × (length c.now ≡ W) }
+    requires last { (length d.now ≡ W) × (length e.now ≡ W) × (length f.now ≡ W) }
+    requires low { AreRaw a.now W × AreRaw b.now W × AreRaw c.now W }
+    requires high { AreRaw d.now W × AreRaw e.now W × AreRaw f.now W }
+    ensures { (i : ℕ) → i < W → slice_index result i ≡ middle_down a.now b.now c.now d.now e.now f.now i }
 {
-    for i in 0..out.len() {
-        out[i] = middle_of(a[i], b[i], c[i], d[i], e[i], f[i]);
+    let mut row = [0u8; W];
+    for i in 0..W {
+        row[i] = middle_of(a[i], b[i], c[i], d[i], e[i], f[i]);
     }
+    row
 }
 
 // The means with another block's first `count` samples.

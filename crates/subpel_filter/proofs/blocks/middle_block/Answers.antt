@@ -7,9 +7,9 @@ use Rattle.subpel_filter.proofs.blocks.middle_block.Goals as goal
 
 pub loop-j-preserved : goal.loop-j-preserved
 unfolding middle_down
-loop-j-preserved g c = block_more (λ i j v. v ≡ position_at c.args.plane.now Middle c.args.column c.args.row i j) g.row.W c.args.h 16 c.loop-j.j c.loop-j.out c.middles.new.out c.loop-j.invariant
-    c.middles.auto.out (omega arith) (omega arith) (omega arith) (omega arith)
-    (λ i p q. c.middles.ensures i p ∙
+loop-j-preserved g c = block_more (λ i j v. v ≡ position_at c.args.plane.now Middle c.args.column c.args.row i j) g.row.W c.args.h 16 c.loop-j.j c.loop-j.out c.copied.new.out c.loop-j.invariant
+    c.copied.auto.out (omega arith) (omega arith) (omega arith) (omega arith)
+    (λ i p q. c.copied.ensures.value i p ∙ c.middles-made.ensures i q ∙
     rw (
       row_place c.raw_block.new.out (c.loop-j.j * g.row.W) g.row.W i q,
       row_place c.raw_block.new.out ((c.loop-j.j + 1) * g.row.W) g.row.W i q,
