@@ -179,6 +179,13 @@ impl Coder {
         self.shifts
     }
 
+    /// Whether a bin did not fit.
+    pub fn is_full(&self) -> bool
+        ensures { result ≡ self.now.full }
+    {
+        self.full
+    }
+
     /// The bits at the start and then those of the code (clause 9.3.4.5), of which the last is 1.
     pub fn finish(self) -> BitBuf
         requires ended { self.ended ≡ true }

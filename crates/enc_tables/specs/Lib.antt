@@ -1,5 +1,7 @@
 pub mod Arithmetic
+pub mod Choice
 pub mod Kinds
+pub mod Plans
 pub mod Records
 pub mod Samples
 pub mod Steps

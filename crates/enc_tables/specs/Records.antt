@@ -1,5 +1,5 @@
 -- Records with nothing in them.
-use Rattle.std.specs.Prelude.{ℕ, false, List, [], ◌∷◌, replicate, pos, negsuc}
+use Rattle.std.specs.Prelude.{ℕ, false, [], ◌∷◌, replicate, pos, negsuc}
 use Rattle.enc_tables.specs.declared.records.MbKind.{MbKind}
 use Rattle.enc_tables.specs.declared.records.MbRecord.{MbRecord}
 use Rattle.enc_tables.specs.declared.records.Motion.{Motion}

@@ -2,14 +2,18 @@
 #![tactic(auto)]
 
 mod arithmetic;
+mod choice;
 mod contexts;
 mod filter;
+mod plans;
 mod records;
 mod transform;
 
 pub use arithmetic::{NEXT_LPS, RANGE_LPS, lps_range, next_state};
+pub use choice::choose;
 pub use contexts::{CONTEXT_PAIRS_I, CONTEXT_PAIRS_PB};
 pub use filter::{FILTER_ALPHA, FILTER_BETA, FILTER_TC0};
+pub use plans::RowPlan;
 pub use records::{
     CtxState, MbKind, MbPlan, MbRecord, Motion, PartPlan, PlanStep, SliceKind, Vector,
 };

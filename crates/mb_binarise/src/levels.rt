@@ -16,8 +16,9 @@ const FLAGS_FROM: [u16; 5] = [0, 15, 29, 44, 47];
 
 const LEVELS_FROM: [u16; 5] = [0, 10, 20, 30, 39];
 
+/// The context of coded_block_flag.
 #[tactic(auto, unfolding(spec_syntax::specs::Levels::coded_at))]
-fn coded_context(category: u8, inc: u8) -> u16
+pub fn coded_context(category: u8, inc: u8) -> u16
     requires { category ≤ 4 }
     ensures { result ≡ coded_at category inc }
 {
@@ -32,8 +33,9 @@ pub fn bins_coded(category: u8, inc: u8, flag: bool) -> ArrayVec<Bin, 48>
     one(coded_context(category, inc), flag)
 }
 
+/// The context of significant_coeff_flag at a place, which isn't the block's last.
 #[tactic(auto, unfolding(spec_syntax::specs::Levels::significant_at))]
-fn significant_context(category: u8, place: u8) -> u16
+pub fn significant_context(category: u8, place: u8) -> u16
     requires category { category ≤ 5 }
     requires place { place < 63 }
     ensures { result ≡ significant_at category place }
@@ -54,8 +56,9 @@ pub fn bins_significant(category: u8, place: u8, flag: bool) -> ArrayVec<Bin, 48
     one(significant_context(category, place), flag)
 }
 
+/// The context of last_significant_coeff_flag at a place, which isn't the block's last.
 #[tactic(auto, unfolding(spec_syntax::specs::Levels::last_at))]
-fn last_context(category: u8, place: u8) -> u16
+pub fn last_context(category: u8, place: u8) -> u16
     requires category { category ≤ 5 }
     requires place { place < 63 }
     ensures { result ≡ last_at category place }
@@ -88,8 +91,9 @@ fn levels_context(category: u8) -> u16
     }
 }
 
+/// The context of the first bin of coeff_abs_level_minus1, after `above_one` levels of greater size than 1 and `ones` of size 1.
 #[tactic(auto, unfolding(spec_syntax::specs::Levels::first_at))]
-fn first_context(category: u8, above_one: u8, ones: u8) -> u16
+pub fn first_context(category: u8, above_one: u8, ones: u8) -> u16
     requires { category ≤ 5 }
     ensures { result ≡ first_at category above_one ones }
 {
@@ -100,8 +104,9 @@ fn first_context(category: u8, above_one: u8, ones: u8) -> u16
     }
 }
 
+/// The context of the other bins of its prefix.
 #[tactic(auto, unfolding(spec_syntax::specs::Levels::others_at))]
-fn others_context(category: u8, above_one: u8) -> u16
+pub fn others_context(category: u8, above_one: u8) -> u16
     requires { category ≤ 5 }
     ensures { result ≡ others_at category above_one }
 {

@@ -12,7 +12,10 @@ mod tests;
 mod types;
 
 pub use inter::{bins_mvd, bins_ref, bins_skip, bins_sub_type};
-pub use levels::{bins_coded, bins_last, bins_level, bins_sign, bins_significant};
+pub use levels::{
+    bins_coded, bins_last, bins_level, bins_sign, bins_significant, coded_context, first_context,
+    last_context, others_context, significant_context,
+};
 pub use macroblock::{
     bins_chroma_cbp, bins_chroma_mode, bins_end, bins_luma_cbp, bins_mode_flag, bins_mode_rem,
     bins_qp_delta, bins_transform, bins_type,

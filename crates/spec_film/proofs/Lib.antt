@@ -1,1 +1,2 @@
 pub mod FilmLaws
+mod WrittenRows

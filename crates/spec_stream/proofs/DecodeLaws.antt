@@ -41,7 +41,7 @@ unfolding trail_bits
 is_trail-bits n = trail_is (7 - n % 8) (omega arith)
 
 -- fields that are read are all that a parameter set has
-read_set-back : {A : Type 0} (f : Reader A) (bits : List Bool) (v : A) → Reads f bits v → read_set f (bytes_of_bits (bits ++ trail_bits (length bits))) ≡ Some v
+pub read_set-back : {A : Type 0} (f : Reader A) (bits : List Bool) (v : A) → Reads f bits v → read_set f (bytes_of_bits (bits ++ trail_bits (length bits))) ≡ Some v
 unfolding read_set
 read_set-back f bits v reads =
     ap (λ all. option_and_then ended (read f all)) (bits_of_bytes-bytes_of_bits (bits ++ trail) (ap (λ n. n % 8) (length-append bits trail) ∙ trail_whole (length bits)))

@@ -1,4 +1,3 @@
-pub mod ByTest
 pub mod Columns
 pub mod Counted
 pub mod Eight

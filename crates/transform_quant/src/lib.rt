@@ -13,8 +13,6 @@ mod levels;
 mod quant;
 mod scale;
 mod tables;
-#[cfg(test)]
-mod tests;
 mod turn;
 
 pub use dc::{chroma_dc, luma_dc};

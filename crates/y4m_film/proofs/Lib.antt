@@ -4,3 +4,4 @@ pub mod Filling
 pub mod Texts
 pub mod Frames
 pub mod Fits
+pub mod Appending

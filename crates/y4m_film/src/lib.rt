@@ -6,15 +6,17 @@ ghost use Rattle.std.specs.Prelude.{◌≤◌};
 mod head;
 mod pictures;
 mod text;
+mod writing;
 
 pub use head::{HeadFault, read_head};
 pub use pictures::{FrameFault, next_picture};
 pub use spec_film::{FilmHead, InputFault};
+pub use writing::{put_head, put_picture};
 
 #[cfg(test)]
 mod tests {
     use super::*;
-    use enc_edge::MemStudio;
+    use enc_edge::{MemStudio, Out, Studio};
     use picture_planes::Picture;
     use std::alloc::{AllocError, Global};
     use std::test::Fail;
@@ -94,6 +96,31 @@ mod tests {
                 Ok(false)
             );
         }
+        Ok(())
+    }
+
+    #[test]
+    fn a_film_is_written(rt: HostRuntime) -> Result<(), Fail> {
+        let alloc = rt.alloc();
+        let head = FilmHead {
+            width: 16,
+            height: 16,
+            num: 25,
+            den: 1,
+        };
+        let mut studio = MemStudio::new(alloc, Vec::new(alloc), 1000, 7, Vec::new(alloc))?;
+        let mut picture = Picture::new(alloc, 16, 16)?;
+        picture.row_mut(2, 7).copy_from_slice(&[9; 8]);
+        assert!(rt; studio.open_out(Out::Recon, "film").is_ok());
+        assert!(rt; put_head(&mut studio, Out::Recon, &head).is_ok());
+        assert!(rt; put_picture(&mut studio, Out::Recon, &picture).is_ok());
+        let film = studio.written(Out::Recon);
+        assert!(rt; film.starts_with(b"YUV4MPEG2 W16 H16 F25:1 Ip C420\nFRAME\n\0"));
+        assert!(rt; film.ends_with(&[0, 9, 9, 9, 9, 9, 9, 9, 9]));
+        assert_eq!(rt; film.len(), 422);
+        assert!(rt; put_picture(&mut studio, Out::Recon, &picture).is_ok());
+        assert!(rt; put_picture(&mut studio, Out::Recon, &picture).is_err());
+        assert_eq!(rt; studio.written(Out::Recon).len(), 1000);
         Ok(())
     }
 

@@ -1,0 +1,156 @@
+// Planes through the neighbours.
+ghost use Rattle.std.specs.Prelude.{◌≡◌, ◌⊎◌, ℕ, ℤ, pos, ◌+ℤ◌, ◌-ℤ◌, ◌*ℤ◌, ◌≤ℤ◌, ◌+◌, ◌-◌, ◌*◌, ◌/◌, ◌<◌, ◌≤◌, length, slice_index};
+ghost use Rattle.spec_intra.specs.Slopes.{tilt, slope, plane_at, plane};
+ghost use Rattle.enc_tables.specs.Samples.{clip1};
+ghost use Rattle.spec_intra.specs.Block.{block};
+ghost use Rattle.std.specs.Int.{int_shr};
+
+use crate::blocks::{Predictor, block8, block16};
+use std::marker::Model;
+
+#[inline]
+#[tactic(auto, unfolding(spec_intra::specs::Slopes::tilt))]
+fn tilt_of(samples: &[u8], h: usize) -> i32
+    requires sized { length samples.now ≡ 2 * h + 1 }
+    requires small { h ≤ 8 }
+    ensures value { result ≡ tilt h samples.now }
+    ensures low { (pos 0 -ℤ pos 18360) ≤ℤ result }
+    ensures high { result ≤ℤ pos 18360 }
+{
+    let mut up = 0u32;
+    let mut down = 0u32;
+    for i in 0..h + 1 {
+        up += i as u32 * samples[h + i] as u32;
+        down += i as u32 * samples[h - i] as u32;
+    }
+    up as i32 - down as i32
+}
+
+#[inline]
+#[tactic(auto, unfolding(spec_intra::specs::Slopes::slope))]
+fn slope_of(weight: i32, samples: &[u8], h: usize) -> i32
+    requires weight { (weight ≡ pos 5) ⊎ (weight ≡ pos 34) }
+    requires sized { length samples.now ≡ 2 * h + 1 }
+    requires small { h ≤ 8 }
+    ensures value { (w : ℕ) → weight ≡ pos w → result ≡ slope w h samples.now }
+    ensures low { (pos 0 -ℤ pos 10000) ≤ℤ result }
+    ensures high { result ≤ℤ pos 10000 }
+{
+    (weight * tilt_of(samples, h) + 32) >> 6
+}
+
+// A whole number as contracts see it, with no width.
+#[derive(Clone, Copy)]
+pub struct Whole {
+    value: i32,
+}
+
+impl Model for Whole {
+    ghost Value = { ℤ };
+
+    ghost view = { λ c. c.value };
+
+    ghost inverse = { λ z. record { value = z } };
+}
+
+impl Whole {
+    #[inline]
+    fn new(value: i32) -> Whole
+        ensures { result ≡ value }
+    {
+        Whole { value }
+    }
+
+    // The slope times the distance from the middle.
+    #[inline]
+    fn rise(self, x: usize, h: usize) -> Whole
+        requires small { h ≤ 8 }
+        requires inside { x < 2 * h }
+        requires low { (pos 0 -ℤ pos 10000) ≤ℤ self }
+        requires high { self ≤ℤ pos 10000 }
+        ensures value { result ≡ self *ℤ (pos (x + 1) -ℤ pos h) }
+        ensures low { (pos 0 -ℤ pos 80000) ≤ℤ (self *ℤ (pos (x + 1) -ℤ pos h)) }
+        ensures high { (self *ℤ (pos (x + 1) -ℤ pos h)) ≤ℤ pos 80000 }
+    {
+        Whole {
+            value: self.value * ((x + 1) as i32 - h as i32),
+        }
+    }
+
+    #[inline]
+    fn height(ends: u32, across: Whole, down: Whole) -> Whole
+        requires few { ends ≤ 510 }
+        requires a_low { (pos 0 -ℤ pos 80000) ≤ℤ across }
+        requires a_high { across ≤ℤ pos 80000 }
+        requires d_low { (pos 0 -ℤ pos 80000) ≤ℤ down }
+        requires d_high { down ≤ℤ pos 80000 }
+        ensures value { result ≡ pos (16 * ends) +ℤ across +ℤ down +ℤ pos 16 }
+    {
+        Whole {
+            value: (16 * ends) as i32 + across.value + down.value + 16,
+        }
+    }
+
+    #[inline]
+    fn sample(self) -> u8
+        ensures { result ≡ clip1 (int_shr self 5) }
+    {
+        (self.value >> 5).clamp(0, 255) as u8
+    }
+}
+
+#[derive(Clone, Copy)]
+pub struct Plane {
+    h: usize,
+    ends: u32,
+    b: Whole,
+    c: Whole,
+    ghost small: { h ≤ 8 },
+    ghost few: { ends ≤ 510 },
+    ghost b_low: { (pos 0 -ℤ pos 10000) ≤ℤ b },
+    ghost b_high: { b ≤ℤ pos 10000 },
+    ghost c_low: { (pos 0 -ℤ pos 10000) ≤ℤ c },
+    ghost c_high: { c ≤ℤ pos 10000 },
+}
+
+impl Predictor for Plane {
+    ghost use Rattle.intra_pred.specs.Views.{plane_view};
+
+    ghost size = { λ p. 2 * p.h };
+
+    ghost at = { plane_view };
+
+    #[tactic(auto, unfolding(spec_intra::specs::Slopes::plane_at))]
+    fn sample(&self, x: usize, y: usize) -> u8 {
+        Whole::height(self.ends, self.b.rise(x, self.h), self.c.rise(y, self.h)).sample()
+    }
+}
+
+#[inline]
+pub fn plane16(above: &[u8; 17], left: &[u8; 17]) -> [u8; 256]
+    ensures { result ≡ block 16 (plane 5 8 above.now left.now) }
+{
+    let b = Whole::new(slope_of(5, above, 8));
+    let c = Whole::new(slope_of(5, left, 8));
+    block16(&Plane {
+        h: 8,
+        ends: above[16] as u32 + left[16] as u32,
+        b,
+        c,
+    })
+}
+
+/// Mode 3 of chroma (clause 8.3.4.4).
+#[inline]
+pub fn plane8(above: &[u8; 9], left: &[u8; 9]) -> [u8; 64]
+    ensures { result ≡ block 8 (plane 34 4 above.now left.now) }
+{
+    let b = Whole::new(slope_of(34, above, 4));
+    let c = Whole::new(slope_of(34, left, 4));
+    block8(&Plane {
+        h: 4,
+        ends: above[8] as u32 + left[8] as u32,
+        b,
+        c,
+    })
+}

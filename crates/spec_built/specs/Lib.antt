@@ -1,0 +1,5 @@
+pub mod Parts
+pub mod Residuals
+pub mod InOrder
+pub mod Luma
+pub mod Chroma

@@ -1,0 +1,5 @@
+pub mod Taps
+pub mod Places
+pub mod Luma
+pub mod Chroma
+pub mod Blocks

@@ -1,0 +1,6 @@
+pub mod Near
+pub mod Parts
+pub mod Modes
+pub mod Macroblock
+pub mod Strings
+pub mod Records

@@ -1,0 +1,13 @@
+//! Blocks of samples predicted from a reference plane (ITU-T H.264, clause 8.4.2.2).
+#![tactic(auto)]
+
+mod blocks;
+mod chroma;
+mod fractions;
+mod predict;
+mod rows;
+
+pub use predict::{chroma_block, luma_block};
+
+#[cfg(test)]
+mod tests;

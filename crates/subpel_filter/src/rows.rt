@@ -1,0 +1,137 @@
+// Rows of half samples, made from rows of samples.
+ghost use Rattle.std.specs.Prelude.{◌≡◌, ◌≤◌, ◌<◌, ◌+◌, ◌*◌, ℕ, pos, ◌+ℤ◌, length, slice_index};
+ghost use Rattle.spec_inter.specs.Taps.{mean, half, tap};
+ghost use Rattle.subpel_filter.specs.Rows.{HalvesOf, RawsOf, AreRaw, half_down, middle, middle_down};
+
+// The half sample of six samples in a row. The difference never wraps: below 0 it is clipped to 0.
+#[inline(always)]
+fn half_of(a: u8, b: u8, c: u8, d: u8, e: u8, f: u8) -> u8
+    ensures { result ≡ half (tap (pos a) (pos b) (pos c) (pos d) (pos e) (pos f)) }
+{
+    let up = a as u16 + 20 * (c as u16 + d as u16) + f as u16 + 16;
+    let down = 5 * (b as u16 + e as u16);
+    (up.saturating_sub(down) / 32).min(255) as u8
+}
+
+// The taps, not rounded, with 2550 added.
+#[inline(always)]
+fn raw_of(a: u8, b: u8, c: u8, d: u8, e: u8, f: u8) -> u16
+    ensures value { pos result ≡ tap (pos a) (pos b) (pos c) (pos d) (pos e) (pos f) +ℤ pos 2550 }
+    ensures most { result ≤ 13260 }
+{
+    let up = a as u16 + 20 * (c as u16 + d as u16) + f as u16 + 2550;
+    let down = 5 * (b as u16 + e as u16);
+    up - down
+}
+
+// The half sample of six taps that aren't rounded.
+#[inline(always)]
+fn middle_of(a: u16, b: u16, c: u16, d: u16, e: u16, f: u16) -> u8
+    requires low { (a ≤ 13260) × (b ≤ 13260) × (c ≤ 13260) }
+    requires high { (d ≤ 13260) × (e ≤ 13260) × (f ≤ 13260) }
+    ensures { result ≡ middle a b c d e f }
+{
+    let (outer, near, inner) = (a + f, b + e, c + d);
+    let up = outer as u32 + 20 * inner as u32 + 512;
+    let down = 5 * near as u32 + 81600;
+    (up.saturating_sub(down) / 1024).min(255) as u8
+}
+
+// A row as it is.
+#[inline(always)]
+pub fn copied(a: &[u8], out: &mut [u8])
+    requires { length a.now ≡ length out.old }
+    ensures { (i : ℕ) → i < length out.old → slice_index out.new i ≡ slice_index a.now i }
+{
+    out.copy_from_slice(a);
+}
+
+// A row of samples by value: what is made of it can be written without regard to where it stands.
+#[inline(always)]
+pub fn taken<const W: usize>(a: &[u8]) -> [u8; W]
+    requires { length a.now ≡ W }
+    ensures { (i : ℕ) → i < W → slice_index result i ≡ slice_index a.now i }
+{
+    let mut row = [0u8; W];
+    row.copy_from_slice(a);
+    row
+}
+
+// The half samples along a row.
+#[inline(always)]
+pub fn halves<const W: usize>(a: &[u8]) -> [u8; W]
+    requires { length a.now ≡ W + 5 }
+    ensures { HalvesOf a.now result W }
+{
+    let mut row = [0u8; W];
+    for i in 0..W {
+        row[i] = half_of(a[i], a[i + 1], a[i + 2], a[i + 3], a[i + 4], a[i + 5]);
+    }
+    row
+}
+
+// The taps along a row, not rounded.
+#[inline(always)]
+pub fn raws(a: &[u8], out: &mut [u16])
+    requires { length a.now ≡ length out.old + 5 }
+    ensures { RawsOf a.now out.new (length out.old) }
+{
+    for i in 0..out.len() {
+        out[i] = raw_of(a[i], a[i + 1], a[i + 2], a[i + 3], a[i + 4], a[i + 5]);
+    }
+}
+
+// The half samples down six rows.
+#[inline(always)]
+pub fn halves_down<const W: usize>(
+    a: &[u8],
+    b: &[u8],
+    c: &[u8],
+    d: &[u8],
+    e: &[u8],
+    f: &[u8],
+) -> [u8; W]
+    requires first { (length a.now ≡ W) × (length b.now ≡ W) × (length c.now ≡ W) }
+    requires last { (length d.now ≡ W) × (length e.now ≡ W) × (length f.now ≡ W) }
+    ensures { (i : ℕ) → i < W → slice_index result i ≡ half_down a.now b.now c.now d.now e.now f.now i }
+{
+    let mut row = [0u8; W];
+    for i in 0..W {
+        row[i] = half_of(a[i], b[i], c[i], d[i], e[i], f[i]);
+    }
+    row
+}
+
+// The half samples down six rows of taps that aren't rounded.
+#[inline(always)]
+pub fn middles<const W: usize>(
+    a: &[u16],
+    b: &[u16],
+    c: &[u16],
+    d: &[u16],
+    e: &[u16],
+    f: &[u16],
+) -> [u8; W]
+    requires first { (length a.now ≡ W) × (length b.now ≡ W) × (length c.now ≡ W) }
+    requires last { (length d.now ≡ W) × (length e.now ≡ W) × (length f.now ≡ W) }
+    requires low { AreRaw a.now W × AreRaw b.now W × AreRaw c.now W }
+    requires high { AreRaw d.now W × AreRaw e.now W × AreRaw f.now W }
+    ensures { (i : ℕ) → i < W → slice_index result i ≡ middle_down a.now b.now c.now d.now e.now f.now i }
+{
+    let mut row = [0u8; W];
+    for i in 0..W {
+        row[i] = middle_of(a[i], b[i], c[i], d[i], e[i], f[i]);
+    }
+    row
+}
+
+// The means with another block's first `count` samples.
+#[inline(always)]
+pub fn averaged(a: &[u8; 256], count: usize, out: &mut [u8; 256])
+    requires { count ≤ 256 }
+    ensures { (k : ℕ) → k < count → slice_index out.new k ≡ mean (slice_index out.old k) (slice_index a.now k) }
+{
+    for i in 0..count {
+        out[i] = ((out[i] as u16 + a[i] as u16 + 1) / 2) as u8;
+    }
+}

@@ -1,0 +1,86 @@
+// Films are written: the head, and then picture by picture.
+ghost use Rattle.std.specs.Prelude.{◌≡◌, ◌++◌, IfOk, IfErr};
+ghost use Rattle.enc_edge.specs.Calls.{wrote};
+ghost use Rattle.enc_edge.specs.declared.studio.Place.{Place};
+ghost use Rattle.spec_film.specs.Written.{head_text, picture_text};
+ghost use Rattle.picture_planes.specs.Samples.{samples_of};
+ghost use Rattle.picture_planes.specs.Pictures.{planes_of};
+ghost use Rattle.y4m_film.specs.Writes.{FrontWritten};
+
+use arrayvec::ArrayString;
+use enc_edge::{Failed, Out, Studio, write_full};
+use itoa::Buffer;
+use picture_planes::{Picture, Plane};
+use spec_film::FilmHead;
+
+// The head line: at most 80 bytes.
+#[tactic(auto, unfolding(spec_film::specs::Written::head_text))]
+fn head_line(head: &FilmHead) -> ArrayString<80>
+    ensures { result.bytes ≡ head_text head.now }
+{
+    let mut line = ArrayString::new();
+    let mut number = Buffer::new();
+    line.push_str("YUV4MPEG2 W");
+    line.push_str(number.format(head.width));
+    line.push_str(" H");
+    line.push_str(number.format(head.height));
+    line.push_str(" F");
+    line.push_str(number.format(head.num));
+    line.push_str(":");
+    line.push_str(number.format(head.den));
+    line.push_str(" Ip C420\n");
+    line
+}
+
+// Appends all of the bytes; where a write fails, a front of them was appended.
+fn put<S: Studio>(studio: &mut S, out: Out, bytes: &[u8]) -> Result<(), Failed>
+    ensures ok { IfOk result (λ _. S.seen studio.new ≡ wrote (Place.Output out) bytes.now (S.seen studio.old)) }
+    ensures err { IfErr result (λ _. FrontWritten out bytes.now (S.seen studio.old) (S.seen studio.new)) }
+{
+    match write_full(studio, out, bytes) {
+        Ok(()) => Ok(()),
+        Err((_, failed)) => Err(failed),
+    }
+}
+
+/// Appends the head of a film to an output: the line `YUV4MPEG2 W<width> H<height> F<num>:<den> Ip C420`. `Failed`: a write failed, so the
+/// count of later faults of that output rose, and a front of the line was appended.
+pub fn put_head<S: Studio>(studio: &mut S, out: Out, head: &FilmHead) -> Result<(), Failed>
+    ensures ok { IfOk result (λ _. S.seen studio.new ≡ wrote (Place.Output out) (head_text head.now) (S.seen studio.old)) }
+    ensures err { IfErr result (λ _. FrontWritten out (head_text head.now) (S.seen studio.old) (S.seen studio.new)) }
+{
+    let line = head_line(head);
+    put(studio, out, line.as_bytes())
+}
+
+// Appends the samples of a plane, row by row.
+fn put_plane<S: Studio>(studio: &mut S, out: Out, plane: &Plane) -> Result<(), Failed>
+    ensures ok { IfOk result (λ _. S.seen studio.new ≡ wrote (Place.Output out) (samples_of plane.now) (S.seen studio.old)) }
+    ensures err { IfErr result (λ _. FrontWritten out (samples_of plane.now) (S.seen studio.old) (S.seen studio.new)) }
+{
+    for y in 0..plane.height {
+        put(studio, out, plane.row(y))?;
+    }
+    Ok(())
+}
+
+// Appends the samples of a picture's planes.
+fn put_planes<S: Studio>(studio: &mut S, out: Out, picture: &Picture) -> Result<(), Failed>
+    ensures ok { IfOk result (λ _. S.seen studio.new ≡ wrote (Place.Output out) (samples_of picture.now.y ++ (samples_of picture.now.cb ++ samples_of picture.now.cr)) (S.seen studio.old)) }
+    ensures err { IfErr result (λ _. FrontWritten out (samples_of picture.now.y ++ (samples_of picture.now.cb ++ samples_of picture.now.cr)) (S.seen studio.old) (S.seen studio.new)) }
+{
+    put_plane(studio, out, &picture.y)?;
+    put_plane(studio, out, &picture.cb)?;
+    put_plane(studio, out, &picture.cr)
+}
+
+/// Appends a picture of a film to an output: the line `FRAME` and the samples of the three planes. `Failed`: a write failed, so the count
+/// of later faults of that output rose, and a front of these bytes was appended.
+#[tactic(auto, unfolding(spec_film::specs::Written::picture_text))]
+pub fn put_picture<S: Studio>(studio: &mut S, out: Out, picture: &Picture) -> Result<(), Failed>
+    ensures ok { IfOk result (λ _. S.seen studio.new ≡ wrote (Place.Output out) (picture_text (planes_of picture.now)) (S.seen studio.old)) }
+    ensures err { IfErr result (λ _. FrontWritten out (picture_text (planes_of picture.now)) (S.seen studio.old) (S.seen studio.new)) }
+{
+    put(studio, out, b"FRAME\n")?;
+    put_planes(studio, out, picture)
+}
