@@ -1,4 +1,2 @@
 pub mod Planes
 pub mod Reached
-pub mod Quarters
-pub mod Rounds

@@ -8,12 +8,10 @@ ghost use Rattle.motion_search.specs.Planes.{IsBlockIn};
 mod alone;
 mod bounds;
 mod candidates;
-mod refine;
 mod steps;
 mod window;
 
 pub use alone::search_alone;
-pub use refine::refine;
 pub use spec_search::{Best, Block};
 pub use steps::{Steps, begun};
 pub use window::search;
