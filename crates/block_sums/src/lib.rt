@@ -12,16 +12,21 @@ mod tests {
     use picture_planes::Plane;
     use std::test::Fail;
 
+    // Column x of row y has 7x + 13y + 3, modulo 256.
+    fn samples() -> [u8; 256] {
+        let mut out = [0; 256];
+        for (place, sample) in out.iter_mut().enumerate() {
+            *sample = ((place % 16 * 7 + place / 16 * 13 + 3) % 256) as u8;
+        }
+        out
+    }
+
     // The expected values come from a plain program in Python, with clamped coordinates.
     #[test]
     fn sums_within_the_margin(rt: HostRuntime) -> Result<(), Fail> {
         let alloc = rt.alloc();
         let mut plane = Plane::new(alloc, 16, 16, 40)?;
-        for y in 0..16u32 {
-            for (x, sample) in plane.row_mut(y).iter_mut().enumerate() {
-                *sample = ((x as u32 % 16 * 7 + y * 13 + 3) % 256) as u8;
-            }
-        }
+        plane.set_rows(0, 16, &samples());
         plane.pad_edges();
         let mut table = SumTable::new(alloc, 16, 16, 40)?;
         table.fill(&plane);

@@ -48,15 +48,15 @@ cost_is s r b spot w xs ys h near e f g =
     let nc = near.column in
     let nw = near.row in
     block-same
-      (λ i j. abs_diff (strided xs (buffer_width s) i j) (strided ys (buffer_width r) i j))
-      (λ i j. abs_diff (at s (b.x + i) (b.y + j)) (nearest r (pos (b.x + i) +ℤ dx_of spot) (pos (b.y + j) +ℤ dy_of spot))) w b.h
-      (λ i j p q.
-        (let left = f i j (omega arith) (omega arith) ∙ at_buffer s (b.x + i) (b.y + j) (b.x + s.pad + i) (b.y + s.pad + j) (omega arith) (omega arith) (omega arith) in
-         let u = away b.x i r.pad spot.column spot.ring (b.x + r.pad + spot.column - spot.ring + i) (omega arith) refl in
-         let v = away b.y j r.pad spot.row spot.ring (b.y + r.pad + spot.row - spot.ring + j) (omega arith) refl in
-         let right = g i j (omega arith) (omega arith)
-           ∙ h.filled.at (b.x + r.pad + spot.column - spot.ring + i) (b.y + r.pad + spot.row - spot.ring + j) (omega arith) (omega arith)
-           ∙ ap (λ (k : ℤ). nearest r k (inward r (b.y + r.pad + spot.row - spot.ring + j))) u
-           ∙ ap (nearest r (pos (b.x + i) +ℤ dx_of spot)) v in
-         ap (λ (k : ℕ). abs_diff k (strided ys (buffer_width r) i j)) left ∙ ap (abs_diff (at s (b.x + i) (b.y + j))) right))
+    (λ i j. abs_diff (strided xs (buffer_width s) i j) (strided ys (buffer_width r) i j))
+    (λ i j. abs_diff (at s (b.x + i) (b.y + j)) (nearest r (pos (b.x + i) +ℤ dx_of spot) (pos (b.y + j) +ℤ dy_of spot))) w b.h
+    (λ i j p q.
+    (let left = f i j (omega arith) (omega arith) ∙ at_buffer s (b.x + i) (b.y + j) (b.x + s.pad + i) (b.y + s.pad + j) (omega arith) (omega arith) (omega arith) in
+    let u = away b.x i r.pad spot.column spot.ring (b.x + r.pad + spot.column - spot.ring + i) (omega arith) refl in
+    let v = away b.y j r.pad spot.row spot.ring (b.y + r.pad + spot.row - spot.ring + j) (omega arith) refl in
+    let right = g i j (omega arith) (omega arith)
+    ∙ h.filled.at (b.x + r.pad + spot.column - spot.ring + i) (b.y + r.pad + spot.row - spot.ring + j) (omega arith) (omega arith)
+    ∙ ap (λ (k : ℤ). nearest r k (inward r (b.y + r.pad + spot.row - spot.ring + j))) u
+    ∙ ap (nearest r (pos (b.x + i) +ℤ dx_of spot)) v in
+    ap (λ (k : ℕ). abs_diff k (strided ys (buffer_width r) i j)) left ∙ ap (abs_diff (at s (b.x + i) (b.y + j))) right))
     ∙ ap (λ (k : ℕ). block_sum (λ i j. abs_diff (at s (b.x + i) (b.y + j)) (nearest r (pos (b.x + i) +ℤ dx_of spot) (pos (b.y + j) +ℤ dy_of spot))) k b.h) (sym e)

@@ -22,7 +22,7 @@ passed f g n limit s b later e h le under over =
     record {
       place = h.place;
       stands = h.stands;
-      known = rw add-one (passed_over (scanned f) (scanned g) n h.place b.sad b.compared later h.known (omega arith) (omega arith))
+      known = rw add-one (passed_over (scanned f) (scanned g) n h.place b.sad b.compared later h.known (omega arith) (omega arith));
     }
 
 pub moved_on : (f g : ℤ → ℤ → ℕ) (n limit : ℕ) (s : Spot) (b c : Found) → 0 < n → s ≡ spot_at n → Reached f g n b → limit ≡ g (dx_of s) (dy_of s) → limit < b.sad → c.sad ≡ f (dx_of s) (dy_of s) → c.sad < b.sad → c.spot ≡ s → c.compared ≡ b.compared + 1

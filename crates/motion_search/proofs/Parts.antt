@@ -40,10 +40,10 @@ part_own t p b k l c r h ib m n e f =
     let y = within b.h l ib.high n in
     h.sums c r (omega arith) (omega arith)
     ∙ block-same (λ i j. nearest p (inward p (c + i)) (inward p (r + j))) (shifted (own (at p) b) (8 * k) (8 * l)) 8 8 (λ i j d g.
-        (let u : inward p (c + i) ≡ pos (b.x + (8 * k + i)) = omega (arith, ints) in
-         let v : inward p (r + j) ≡ pos (b.y + (8 * l + j)) = omega (arith, ints) in
-         ap (λ (q : ℤ). nearest p q (inward p (r + j))) u ∙ ap (nearest p (pos (b.x + (8 * k + i)))) v
-         ∙ inside_at p (b.x + (8 * k + i)) (b.y + (8 * l + j)) (omega arith) (omega arith)))
+    (let u : inward p (c + i) ≡ pos (b.x + (8 * k + i)) = omega (arith, ints) in
+    let v : inward p (r + j) ≡ pos (b.y + (8 * l + j)) = omega (arith, ints) in
+    ap (λ (q : ℤ). nearest p q (inward p (r + j))) u ∙ ap (nearest p (pos (b.x + (8 * k + i)))) v
+    ∙ inside_at p (b.x + (8 * k + i)) (b.y + (8 * l + j)) (omega arith) (omega arith)))
 
 -- a part of the block, a vector away in the reference
 pub part_moved : (t : SumTable) (p : Plane) (b : Block) (s : Spot) (k l c r : ℕ) → IsTableOf t p → t.pad ≡ 40 → IsBlockIn t.width t.height b → IsNear s → k < b.w / 8 → l < b.h / 8
@@ -60,9 +60,9 @@ part_moved t p b s k l c r h m ib near kk ll e f =
     let y = within b.h l ib.high ll in
     h.sums c r (omega arith) (omega arith)
     ∙ block-same (λ i j. nearest p (inward p (c + i)) (inward p (r + j))) (shifted (moved (nearest p) b (dx_of s) (dy_of s)) (8 * k) (8 * l)) 8 8 (λ i j d g.
-        (let u : inward p (c + i) ≡ pos (b.x + (8 * k + i)) +ℤ dx_of s = away b.x (8 * k + i) p.pad s.column s.ring (c + i) (omega arith) (omega arith) in
-         let v : inward p (r + j) ≡ pos (b.y + (8 * l + j)) +ℤ dy_of s = away b.y (8 * l + j) p.pad s.row s.ring (r + j) (omega arith) (omega arith) in
-         ap (λ (q : ℤ). nearest p q (inward p (r + j))) u ∙ ap (nearest p (pos (b.x + (8 * k + i)) +ℤ dx_of s)) v))
+    (let u : inward p (c + i) ≡ pos (b.x + (8 * k + i)) +ℤ dx_of s = away b.x (8 * k + i) p.pad s.column s.ring (c + i) (omega arith) (omega arith) in
+    let v : inward p (r + j) ≡ pos (b.y + (8 * l + j)) +ℤ dy_of s = away b.y (8 * l + j) p.pad s.row s.ring (r + j) (omega arith) (omega arith) in
+    ap (λ (q : ℤ). nearest p q (inward p (r + j))) u ∙ ap (nearest p (pos (b.x + (8 * k + i)) +ℤ dx_of s)) v))
 
 at_most_two : (n k : ℕ) → (n ≡ 8) ⊎ (n ≡ 16) → suc (suc k) < n / 8 → ⊥
 at_most_two n k (inl e) p = let q = rw e at p in omega arith

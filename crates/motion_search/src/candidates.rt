@@ -55,7 +55,13 @@ pub fn after(spot: Spot) -> Spot
 
 /// The sum of absolute differences of the block and the samples of the reference that lie the vector away.
 #[inline(always)]
-pub fn difference<L: Ledger>(source: &Plane, reference: &Plane, block: Block, spot: Spot, steps: &mut Steps<L>) -> u32
+pub fn difference<L: Ledger>(
+    source: &Plane,
+    reference: &Plane,
+    block: Block,
+    spot: Spot,
+    steps: &mut Steps<L>,
+) -> u32
     requires planes { Searchable source.now reference.now block }
     requires near { IsNear spot }
     ensures value { result ≡ costs source.now reference.now block (dx_of spot) (dy_of spot) }

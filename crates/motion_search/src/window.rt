@@ -17,7 +17,17 @@ use std::sync::ledger::Ledger;
 
 // The search goes on to the vector at a place of the scan: where its bound is below the least so far it is compared.
 #[inline(always)]
-fn tried<L: Ledger>(source: &Plane, reference: &Plane, own: &[u32; 4], sums: &SumTable, block: Block, place: u32, spot: Spot, best: Found, steps: &mut Steps<L>) -> Found
+fn tried<L: Ledger>(
+    source: &Plane,
+    reference: &Plane,
+    own: &[u32; 4],
+    sums: &SumTable,
+    block: Block,
+    place: u32,
+    spot: Spot,
+    best: Found,
+    steps: &mut Steps<L>,
+) -> Found
     requires planes { Searchable source.now reference.now block }
     requires table { IsTableOf sums.now reference.now }
     requires own { OwnSums source.now block own.now }
@@ -74,7 +84,15 @@ fn best_of(found: Found) -> Best
 ///
 /// The reference's margin is 40 and filled, source and reference have one size, the tables are filled from the planes,
 /// the block lies inside with sides of 8 or 16, and the range is from 1 to 32.
-pub fn search<L: Ledger>(source: &Plane, reference: &Plane, source_sums: &SumTable, sums: &SumTable, block: Block, range: u32, steps: &mut Steps<L>) -> Best
+pub fn search<L: Ledger>(
+    source: &Plane,
+    reference: &Plane,
+    source_sums: &SumTable,
+    sums: &SumTable,
+    block: Block,
+    range: u32,
+    steps: &mut Steps<L>,
+) -> Best
     requires margin { reference.now.pad ≡ 40 }
     requires filled { IsFilled reference.now }
     requires sizes { SameSize source.now reference.now }
@@ -101,7 +119,9 @@ pub fn search<L: Ledger>(source: &Plane, reference: &Plane, source_sums: &SumTab
     let count = (2 * range + 1) * (2 * range + 1);
     for place in 1..count {
         spot = after(spot);
-        best = tried(source, reference, &own, sums, block, place, spot, best, steps);
+        best = tried(
+            source, reference, &own, sums, block, place, spot, best, steps,
+        );
     }
     best_of(best)
 }

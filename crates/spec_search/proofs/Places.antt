@@ -4,14 +4,14 @@ use Rattle.std.proofs.lemmas.Bool.Decides.{nat_tests}
 use Rattle.std.proofs.lemmas.Bool.{cases_lt}
 use Rattle.spec_search.specs.Least.{IsFirstLeast, Searched}
 
-keep : (f : ℕ → ℕ) (i b : ℕ) → IsFirstLeast f i b → f b ≤ f i → IsFirstLeast f (suc i) b
+pub keep : (f : ℕ → ℕ) (i b : ℕ) → IsFirstLeast f i b → f b ≤ f i → IsFirstLeast f (suc i) b
 keep f i b h le = record {
   inside = omega (arith, h.inside);
   is_least = λ j p. elim (cases_lt j i) [ inl q ↦ h.is_least j q | inr q ↦ (let e : i ≡ j = omega arith in subst (λ k. f b ≤ f k) e le) ];
   is_first = h.is_first;
 }
 
-move : (f : ℕ → ℕ) (i b : ℕ) → IsFirstLeast f i b → f i < f b → IsFirstLeast f (suc i) i
+pub move : (f : ℕ → ℕ) (i b : ℕ) → IsFirstLeast f i b → f i < f b → IsFirstLeast f (suc i) i
 move f i b h lt = record {
   inside = omega arith;
   is_least = λ j p. elim (cases_lt j i) [ inl q ↦ (let k = h.is_least j q in omega arith) | inr q ↦ (let e : i ≡ j = omega arith in subst (λ k. f i ≤ f k) e (omega arith)) ];
@@ -66,3 +66,6 @@ started f g = record {
   lowest = refl;
   count = refl;
 }
+
+pub first_alone : (f : ℕ → ℕ) → IsFirstLeast f 1 0
+first_alone f = (started f (λ n. 0)).first_least

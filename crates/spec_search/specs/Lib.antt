@@ -1,3 +1,4 @@
 pub mod Scan
 pub mod Least
 pub mod Window
+pub mod Refine

@@ -8,11 +8,11 @@ use Rattle.motion_search.proofs.window.search.Goals as goal
 pub loop-place-init : goal.loop-place-init
 unfolding spot_at
 loop-place-init g c = record {
-    stands = refl;
-    known = begun_at (costs c.args.source.now c.args.reference.now c.args.block) (bounds c.args.source.now c.args.reference.now c.args.block) _ _ refl refl c.difference-first.ensures.value refl;
-    few = omega arith;
-    counted = c.difference-first.ensures.step
-  }
+  stands = refl;
+  known = begun_at (costs c.args.source.now c.args.reference.now c.args.block) (bounds c.args.source.now c.args.reference.now c.args.block) _ _ refl refl c.difference-first.ensures.value refl;
+  few = omega arith;
+  counted = c.difference-first.ensures.step;
+}
 
 pub after-spot-requires : goal.after-spot-requires
 after-spot-requires g c = near_of (c.loop-place.place - 1) c.args.range c.loop-place.spot c.requires.range.1 (omega arith) c.loop-place.invariant.stands
@@ -20,7 +20,7 @@ after-spot-requires g c = near_of (c.loop-place.place - 1) c.args.range c.loop-p
 pub tried-best-requires-clause-near : goal.tried-best-requires-clause-near
 tried-best-requires-clause-near g c =
     near_of c.loop-place.place c.args.range c.after-spot.result c.requires.range.1 (omega arith)
-      (arrived c.loop-place.place c.loop-place.spot c.after-spot.result (omega arith) c.loop-place.invariant.stands c.after-spot.ensures)
+    (arrived c.loop-place.place c.loop-place.spot c.after-spot.result (omega arith) c.loop-place.invariant.stands c.after-spot.ensures)
 
 pub tried-best-requires-clause-stands : goal.tried-best-requires-clause-stands
 tried-best-requires-clause-stands g c = arrived c.loop-place.place c.loop-place.spot c.after-spot.result (omega arith) c.loop-place.invariant.stands c.after-spot.ensures
@@ -37,7 +37,7 @@ loop-place-preserved g c =
       stands = rw e a;
       known = c.tried-best.ensures.known;
       few = omega arith;
-      counted = omega arith
+      counted = omega arith;
     }
 
 pub best_of-requires : goal.best_of-requires
@@ -51,4 +51,4 @@ returns-clause-best g c =
     let up = c.loop-place.auto.place-end (some_window c.args.range) in
     let down = c.loop-place-test.false in
     ended (costs c.args.source.now c.args.reference.now c.args.block) (bounds c.args.source.now c.args.reference.now c.args.block) c.args.range c.loop-place.place c.loop-place.best _ _ _ (omega arith) c.loop-place.invariant.known
-      c.best_of.ensures.dx c.best_of.ensures.dy c.best_of.ensures.sad
+    c.best_of.ensures.dx c.best_of.ensures.dy c.best_of.ensures.sad

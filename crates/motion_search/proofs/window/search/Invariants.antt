@@ -9,5 +9,5 @@ invariant-loop-place g l = record {
   stands : l.spot ≡ spot_at (l.place - 1);
   known : Reached (costs l.source l.reference l.block) (bounds l.source l.reference l.block) l.place l.best;
   few : l.best.compared ≤ l.place;
-  counted : l.steps ≡ l.fn.steps + l.best.compared
+  counted : l.steps ≡ l.fn.steps + l.best.compared;
 }
