@@ -6,5 +6,7 @@ mod difference;
 mod macroblock;
 mod modes;
 mod rows;
+#[cfg(test)]
+mod tests;
 
 pub use rows::plan_row;

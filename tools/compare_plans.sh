@@ -1,0 +1,105 @@
+#!/bin/bash
+# Plans pictures by the built planner and compares each macroblock's plan and kind with those of a reference encoder, which
+# codes films that are made here in I slices and says what it plans.
+#
+# usage: tools/compare_plans.sh REFERENCE
+set -eu
+cd "$(dirname "$0")/.."
+reference=$(realpath "$1")
+folder=$(mktemp -d)
+trap 'rm -rf "$folder"' EXIT
+# The build ends with a run whose words the program refuses.
+(cd crates/plan_pictures && rt run -- no numbers) >"$folder/log" 2>&1 </dev/null || true
+if [ ! -x crates/plan_pictures/out/plan_pictures ]; then
+    cat "$folder/log" >&2
+    exit 1
+fi
+
+python3 - "$folder" "$reference" "$PWD/crates/plan_pictures/out/plan_pictures" <<'PY'
+import random, re, subprocess, sys
+
+folder, reference, program = sys.argv[1:]
+random.seed(5)
+
+
+def plane(width, height, sort):
+    """Samples of one sort: noise, slopes with a little noise, squares, flat, black and white."""
+    noise = random.choice([0, 1, 4, 30])
+    a, b, c = random.randint(-6, 6), random.randint(-6, 6), random.randint(0, 255)
+    size = random.choice([4, 8, 16])
+
+    def at(x, y):
+        if sort == 0:
+            return random.randint(0, 255)
+        if sort == 1:
+            return a * x + b * y + c
+        if sort == 2:
+            return a * x if (x // size + y // size) % 2 else b * y + c
+        if sort == 3:
+            return c
+        return random.choice([0, 255])
+
+    return bytes(
+        min(255, max(0, at(x, y) + random.randint(-noise, noise))) for y in range(height) for x in range(width)
+    )
+
+
+def plans_of(text):
+    found = []
+    for line in text.splitlines():
+        kind = re.match(r" *mb \d+ \(\d+,\d+\) (\w+)", line)
+        if kind:
+            found.append({"kind": kind[1]})
+        plan = re.match(
+            r" *plan mode16 (\d+) modes8 \[(.*?)\] modes4 \[(.*?)\] chroma_mode (\d+) activity \d+ intra \[(.*?)\]", line
+        )
+        if plan:
+            found[-1]["line"] = "mode16 %s modes8 %s modes4 %s chroma_mode %s intra %s kind %s" % (
+                plan[1],
+                plan[2].replace(",", ""),
+                plan[3].replace(",", ""),
+                plan[4],
+                plan[5].replace(",", ""),
+                found[-1]["kind"],
+            )
+    return [macroblock["line"] for macroblock in found]
+
+
+macroblocks = 0
+for film in range(40):
+    width, height = random.choice([(16, 16), (16, 48), (48, 16), (32, 32), (64, 48), (80, 64)])
+    pictures = random.randint(1, 3)
+    t8x8 = random.choice(["on", "off"])
+    qp = random.randint(2, 51)
+    slices = random.randint(1, min(3, height // 16))
+    samples = []
+    for picture in range(pictures):
+        samples.append(
+            plane(width, height, random.randint(0, 4))
+            + plane(width // 2, height // 2, random.randint(0, 4))
+            + plane(width // 2, height // 2, random.randint(0, 4))
+        )
+    with open(f"{folder}/film.y4m", "wb") as out:
+        out.write(b"YUV4MPEG2 W%d H%d\n" % (width, height))
+        for picture in samples:
+            out.write(b"FRAME\n" + picture)
+    words = ["--in", f"{folder}/film.y4m", "--out", f"{folder}/out.264", "--recon", f"{folder}/recon.y4m"]
+    words += ["--qp", str(qp), "--slices", str(slices), "--t8x8", t8x8]
+    subprocess.check_call([reference, "--stage", "5", "--dump", f"{folder}/dump", "encode"] + words)
+    dump = open(f"{folder}/dump").read()
+    first_rows = sorted({int(row) for row in re.findall(r"slice \d+ rows (\d+)", dump)})
+    coded_qp = int(re.search(r" qp (\d+) coarsest", dump)[1])
+    numbers = [width, height, pictures, int(t8x8 == "on"), coded_qp] + first_rows
+    planned = subprocess.run(
+        [program] + [str(number) for number in numbers], input=b"".join(samples), stdout=subprocess.PIPE, check=True
+    ).stdout.decode()
+    expected = plans_of(dump)
+    if planned.splitlines() != expected:
+        for ours, theirs in zip(planned.splitlines(), expected):
+            if ours != theirs:
+                print("planned  ", ours)
+                print("reference", theirs)
+        sys.exit(f"film {film} is planned otherwise: {numbers}")
+    macroblocks += len(expected)
+print(f"{macroblocks} macroblocks are planned alike")
+PY
