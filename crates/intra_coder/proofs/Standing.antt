@@ -197,10 +197,10 @@ module _ (width rows first address qp : ℕ) (plane : Plane) (wide : 0 < width) 
     above = λ e. let k : 0 < address / width = second_row width address wide (at_or_behind first width address e) in omega arith;
     corner_left = λ e. let k : 0 < address % width = inner_column width address (not_first (address % width == 0) (nat_le (first + width + 1) address) e) in omega arith;
     corner_above = λ e.
-      let k : 0 < address / width = second_row width address wide (behind_corner first width address (second_part (address % width == 0) (nat_le (first + width + 1) address) e)) in omega arith;
+        let k : 0 < address / width = second_row width address wide (behind_corner first width address (second_part (address % width == 0) (nat_le (first + width + 1) address) e)) in omega arith;
     beyond = λ e. let k : address % width + 2 ≤ width = last_column width address wide (not_first ((address + 1) % width == 0) (nat_le (first + width) (address + 1)) e) in omega arith;
     beyond_above = λ e.
-      let last : ((address + 1) % width == 0) ≡ false = not_first ((address + 1) % width == 0) (nat_le (first + width) (address + 1)) e in
-      let there : nat_le (first + width) (address + 1) ≡ true = second_part ((address + 1) % width == 0) (nat_le (first + width) (address + 1)) e in
-      let k : 0 < address / width = second_row width address wide (behind_right first width address wide last there) in omega arith;
+        let last : ((address + 1) % width == 0) ≡ false = not_first ((address + 1) % width == 0) (nat_le (first + width) (address + 1)) e in
+        let there : nat_le (first + width) (address + 1) ≡ true = second_part ((address + 1) % width == 0) (nat_le (first + width) (address + 1)) e in
+        let k : 0 < address / width = second_row width address wide (behind_right first width address wide last there) in omega arith;
   }

@@ -16,4 +16,4 @@ mod site;
 mod tests;
 
 pub use macroblock::{code_intra4, code_intra8, code_intra16};
-pub use site::site_of;
+pub use site::{site_of, sites_stand};

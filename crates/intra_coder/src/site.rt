@@ -1,5 +1,5 @@
 // Where a macroblock stands.
-ghost use Rattle.std.specs.Prelude.{◌≡◌, ◌≤◌, ◌<◌, ◌+◌, ◌-◌, ◌*◌, ◌/◌, ◌%◌, ◌==◌, ◌&&◌, not, nat_le};
+ghost use Rattle.std.specs.Prelude.{◌≡◌, ◌≤◌, ◌<◌, ◌+◌, ◌-◌, ◌*◌, ◌/◌, ◌%◌, ◌==◌, ◌&&◌, ℕ, not, nat_le};
 ghost use Rattle.intra_coder.specs.Reach.{Stands};
 ghost use Rattle.spec_built.specs.Records.{site_of};
 ghost use Rattle.spec_intra.specs.Near.{macroblock_avail};
@@ -42,3 +42,8 @@ pub fn site_of(width: u32, first: u32, address: u32, qp: u8) -> Site
         qp,
     }
 }
+
+/// A macroblock of a picture lies inside the picture's luma plane, and so do its available neighbours.
+pub fn sites_stand()
+    ensures { (width rows first address qp : ℕ) (plane : Plane) → 0 < width → address < width * rows → plane.width ≡ 16 * width → plane.height ≡ 16 * rows → Stands (site_of width first address qp) plane }
+{}
