@@ -1,7 +1,6 @@
 -- Whole intra macroblocks, part by part.
-use Rattle.std.proofs.Common.{◌≡◌, ◌≤◌, ◌<◌, ◌+◌, ◌-◌, ◌*◌, ◌/◌, ◌∷◌, ◌++◌, ℕ, ℤ, pos, Bool, true, false, List, [], length, take, drop, replicate, refl, sym, ap, ap₂, ◌∙◌, arith, append-nil, length-append}
+use Rattle.std.proofs.Common.{◌≡◌, ◌+◌, ◌/◌, ◌∷◌, ◌++◌, ℕ, ℤ, pos, true, false, List, [], length, take, drop, replicate, sym, ap, ap₂, ◌∙◌, arith, append-nil}
 use Rattle.std.proofs.lemmas.Grind.{common_steps}
-use Rattle.enc_tables.specs.declared.records.MbKind.{MbKind}
 use Rattle.enc_tables.specs.declared.records.MbKind.TheVariants as kinds
 use Rattle.enc_tables.specs.declared.records.MbRecord.{MbRecord}
 use Rattle.spec_contexts.specs.Increments.{some_level}
@@ -9,11 +8,10 @@ use Rattle.spec_film.specs.Films.{Planes}
 use Rattle.spec_residual.specs.Levels.{levels4_of, chroma_dc_levels_of}
 use Rattle.spec_residual.proofs.Listed.{length-listed}
 use Rattle.spec_built.specs.declared.Site.{Site}
-use Rattle.spec_built.specs.InOrder.{joined}
 use Rattle.spec_built.specs.Residuals.{levels_without_dc}
 use Rattle.spec_built.specs.Luma.{luma4_built, luma4_levels, luma8_built, luma8_levels, luma16_built, luma16_dc, luma16_levels}
 use Rattle.spec_built.specs.Chroma.{chroma_built, chroma_dc, chroma_ac}
-use Rattle.spec_built.specs.Records.{luma_built, intra_built, luma_pattern, chroma_pattern, bit_if, intra_record, both_dc, both_ac, intra4_record, intra8_record, intra16_record}
+use Rattle.spec_built.specs.Records.{luma_built, intra_built, luma_pattern, bit_if, intra_record, both_dc, both_ac, intra4_record, intra8_record, intra16_record}
 use Rattle.spec_built.proofs.Rebuilt.{length-joined}
 
 -- a second half written over zeros

@@ -1,6 +1,8 @@
 -- The blocks of a macroblock that lies inside a plane, and their neighbours, lie inside it.
-use Rattle.std.proofs.Common.{◌≡◌, ◌≤◌, ◌<◌, ◌+◌, ◌-◌, ◌*◌, ◌/◌, ◌%◌, ◌||◌, ◌&&◌, ℕ, zero, suc, Bool, true, false, cond, nat_lt, refl, sym, arith, inl, inr, lit<}
-use Rattle.std.proofs.Math.Nat.{mul-le-mul_left}
+use Rattle.std.proofs.Common.{◌≡◌, ◌≤◌, ◌<◌, ◌+◌, ◌-◌, ◌*◌, ◌/◌, ◌%◌, ◌||◌, ◌&&◌, ℕ, zero, suc, Bool, true, false, cond, nat_lt, nat_le, not, ◌==◌, refl, sym, ap, ◌∙◌, arith, inl, inr, lit<}
+use Rattle.std.proofs.Math.Nat.{mul-le-mul_left, add-mul-mod_self_right}
+use Rattle.std.proofs.lemmas.Nat.{le-div}
+use Rattle.spec_built.specs.Records.{site_of}
 use Rattle.std.proofs.lemmas.Bool.{cases_lt}
 use Rattle.std.proofs.lemmas.Bool.Decides.{nat_tests}
 use Rattle.picture_planes.specs.declared.plane.Plane.{Plane}
@@ -111,3 +113,94 @@ reachable_chroma site luma plane st w h = record {
   corner_left = λ h. let k = st.corner_left h in omega arith;
   corner_above = λ h. let k = st.corner_above h in omega arith;
 }
+
+-- ---- macroblocks of a slice
+
+at_or_behind : (first width address : ℕ) → nat_le (first + width) address ≡ true → width ≤ address
+at_or_behind first width address h = let k : first + width ≤ address = grind (arith, nat_tests) in omega arith
+
+behind_corner : (first width address : ℕ) → nat_le (first + width + 1) address ≡ true → width ≤ address
+behind_corner first width address h = let k : first + width + 1 ≤ address = grind (arith, nat_tests) in omega arith
+
+second_row : (width address : ℕ) → 0 < width → width ≤ address → 0 < address / width
+second_row width address wide h = let k : 1 ≤ address / width = le-div 1 address width wide (omega arith) in omega arith
+
+not_first : (b c : Bool) → (not b && c) ≡ true → b ≡ false
+not_first true c h = sym h
+not_first false c h = refl
+
+second_part : (b c : Bool) → (not b && c) ≡ true → c ≡ true
+second_part true true h = refl
+second_part true false h = h
+second_part false c h = h
+
+inner_column : (width address : ℕ) → (address % width == 0) ≡ false → 0 < address % width
+inner_column width address h = grind (arith, nat_tests)
+
+multiple : (k width : ℕ) → 0 < width → k * width % width ≡ 0
+multiple k width wide =
+    let sum : k * width ≡ 0 + k * width = omega arith in
+    let none : 0 % width ≡ 0 = omega arith in
+    ap (λ (m : ℕ). m % width) sum ∙ add-mul-mod_self_right 0 k width ∙ none
+
+zero_test : (m : ℕ) → m ≡ 0 → (m == 0) ≡ false → ⊥
+zero_test m e h = grind (arith, nat_tests)
+
+last_column : (width address : ℕ) → 0 < width → ((address + 1) % width == 0) ≡ false → address % width + 2 ≤ width
+last_column width address wide h =
+    elim (cases_lt (address % width + 1) width) [
+      | inl l ↦ omega arith
+      | inr g ↦
+          (let whole : address + 1 ≡ (address / width + 1) * width = next_whole width address wide g in
+          let none : (address + 1) % width ≡ 0 = ap (λ (m : ℕ). m % width) whole ∙ multiple (address / width + 1) width wide in
+          absurd (zero_test ((address + 1) % width) none h))
+    ]
+  where
+    next_whole : (width address : ℕ) → 0 < width → width ≤ address % width + 1 → address + 1 ≡ (address / width + 1) * width
+    next_whole width address wide g =
+        let parts : width * (address / width) + address % width ≡ address = omega arith in
+        let small : address % width < width = omega arith in
+        let product : (address / width + 1) * width ≡ width * (address / width) + width = grind arith in
+        omega arith
+
+-- the macroblock above at the right is there: this one isn't the last of the first row
+behind_right : (first width address : ℕ) → 0 < width → ((address + 1) % width == 0) ≡ false → nat_le (first + width) (address + 1) ≡ true → width ≤ address
+behind_right first width address wide h g =
+    let k : first + width ≤ address + 1 = grind (arith, nat_tests) in
+    elim (cases_lt address width) [
+      | inl l ↦
+          (let e : address + 1 ≡ 1 * width = omega arith in
+          absurd (zero_test ((address + 1) % width) (ap (λ (m : ℕ). m % width) e ∙ multiple 1 width wide) h))
+      | inr r ↦ r
+    ]
+
+row_inside : (width rows address : ℕ) → 0 < width → address < width * rows → address / width < rows
+row_inside width rows address wide h =
+    elim (cases_lt (address / width) rows) [
+      | inl l ↦ l
+      | inr g ↦
+          (let more : width * rows ≤ width * (address / width) = mul-le-mul_left width g in
+          let parts : width * (address / width) + address % width ≡ address = omega arith in
+          omega arith)
+    ]
+
+module _ (width rows first address qp : ℕ) (plane : Plane) (wide : 0 < width) (inside : address < width * rows) (w : plane.width ≡ 16 * width) (h : plane.height ≡ 16 * rows) where
+  column_is : address % width < width
+  column_is = omega arith
+
+  -- a macroblock of a slice stands in the planes of its picture
+  pub stands_in : Stands (site_of width first address qp) plane
+  stands_in = record {
+    columns = (let k = column_is in omega arith);
+    rows = (let k = row_inside width rows address wide inside in omega arith);
+    left = λ e. let k : 0 < address % width = inner_column width address (not_first (address % width == 0) (nat_le (first + 1) address) e) in omega arith;
+    above = λ e. let k : 0 < address / width = second_row width address wide (at_or_behind first width address e) in omega arith;
+    corner_left = λ e. let k : 0 < address % width = inner_column width address (not_first (address % width == 0) (nat_le (first + width + 1) address) e) in omega arith;
+    corner_above = λ e.
+        let k : 0 < address / width = second_row width address wide (behind_corner first width address (second_part (address % width == 0) (nat_le (first + width + 1) address) e)) in omega arith;
+    beyond = λ e. let k : address % width + 2 ≤ width = last_column width address wide (not_first ((address + 1) % width == 0) (nat_le (first + width) (address + 1)) e) in omega arith;
+    beyond_above = λ e.
+        let last : ((address + 1) % width == 0) ≡ false = not_first ((address + 1) % width == 0) (nat_le (first + width) (address + 1)) e in
+        let there : nat_le (first + width) (address + 1) ≡ true = second_part ((address + 1) % width == 0) (nat_le (first + width) (address + 1)) e in
+        let k : 0 < address / width = second_row width address wide (behind_right first width address wide last there) in omega arith;
+  }

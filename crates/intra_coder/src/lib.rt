@@ -11,10 +11,9 @@ mod macroblock;
 mod near;
 mod parts;
 mod places;
+mod site;
 #[cfg(test)]
 mod tests;
 
-pub use chroma::{Chroma, code_chroma};
-pub use luma4::code_luma4;
-pub use luma8::code_luma8;
-pub use luma16::{Luma16, code_luma16};
+pub use macroblock::{code_intra4, code_intra8, code_intra16};
+pub use site::{site_of, sites_stand};

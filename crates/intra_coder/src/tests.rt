@@ -1,4 +1,4 @@
-use super::*;
+use crate::luma16::code_luma16;
 use picture_planes::Plane;
 use spec_built::Site;
 use spec_intra::Avail;

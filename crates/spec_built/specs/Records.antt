@@ -1,6 +1,6 @@
 -- Whole macroblocks and slices: what a decoder builds of their records, and the records that the encoder makes of intra
 -- macroblocks. `width` is how many macroblocks a row of the picture has.
-use Rattle.std.specs.Prelude.{ℕ, ℤ, pos, Bool, true, false, not, if◌then◌else◌, ◌&&◌, List, [], ◌∷◌, ◌++◌, take, drop, length, replicate, slice_index, slice_index_or, slice_range, ◌+◌, ◌*◌, ◌/◌, ◌%◌}
+use Rattle.std.specs.Prelude.{ℕ, ℤ, pos, Bool, true, false, not, if◌then◌else◌, ◌&&◌, List, ◌∷◌, ◌++◌, take, drop, length, replicate, slice_index, slice_index_or, slice_range, ◌+◌, ◌*◌, ◌/◌, ◌%◌}
 use Rattle.enc_tables.specs.declared.records.MbKind.{MbKind}
 use Rattle.enc_tables.specs.declared.records.MbKind.TheVariants as kinds
 use Rattle.enc_tables.specs.declared.records.MbRecord.{MbRecord}
