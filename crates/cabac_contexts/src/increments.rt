@@ -78,6 +78,7 @@ fn transform_flag(near: Option<&MbRecord>) -> bool
     }
 }
 
+/// Whether the pattern has the bit of 8x8 block `block`.
 #[inline]
 pub fn has_bit(pattern: u8, block: u8) -> bool
     requires { block ≤ 3 }

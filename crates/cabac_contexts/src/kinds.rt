@@ -11,6 +11,7 @@ pub fn is_pcm(kind: MbKind) -> bool
     matches!(kind, MbKind::Pcm)
 }
 
+/// I_NxN.
 #[inline]
 pub fn is_nxn(kind: MbKind) -> bool
     ensures { result ≡ nxn kind }
@@ -18,6 +19,7 @@ pub fn is_nxn(kind: MbKind) -> bool
     matches!(kind, MbKind::Intra4 | MbKind::Intra8)
 }
 
+/// Intra_16x16.
 #[inline]
 pub fn is_16x16(kind: MbKind) -> bool
     ensures { result ≡ whole kind }
@@ -25,6 +27,7 @@ pub fn is_16x16(kind: MbKind) -> bool
     matches!(kind, MbKind::Intra16)
 }
 
+/// Intra prediction, or I_PCM.
 #[inline]
 pub fn is_intra(kind: MbKind) -> bool
     ensures { result ≡ intra kind }

@@ -10,6 +10,7 @@ const LEFT4: [u8; 16] = [5, 0, 7, 2, 1, 4, 3, 6, 13, 8, 15, 10, 9, 12, 11, 14];
 // For each 4x4 luma block the number of the block above it, in the macroblock that holds it.
 const ABOVE4: [u8; 16] = [10, 11, 0, 1, 14, 15, 4, 5, 2, 3, 8, 9, 6, 7, 12, 13];
 
+/// The number of the 4x4 luma block at the left of `block`, in the macroblock that holds it.
 #[inline]
 pub fn left_block4(block: u8) -> u8
     requires { block ≤ 15 }
@@ -19,6 +20,7 @@ pub fn left_block4(block: u8) -> u8
     LEFT4[block as usize]
 }
 
+/// The number of the 4x4 luma block above `block`, in the macroblock that holds it.
 #[inline]
 pub fn above_block4(block: u8) -> u8
     requires { block ≤ 15 }
@@ -28,6 +30,7 @@ pub fn above_block4(block: u8) -> u8
     ABOVE4[block as usize]
 }
 
+/// The number of the 8x8 luma block at the left of `block`, in the macroblock that holds it.
 #[inline]
 pub fn left_block2(block: u8) -> u8
     requires { block ≤ 3 }
@@ -37,6 +40,7 @@ pub fn left_block2(block: u8) -> u8
     block ^ 1
 }
 
+/// The number of the 8x8 luma block above `block`, in the macroblock that holds it.
 #[inline]
 pub fn above_block2(block: u8) -> u8
     requires { block ≤ 3 }
@@ -46,7 +50,7 @@ pub fn above_block2(block: u8) -> u8
     block ^ 2
 }
 
-// The macroblock that holds the block at the left of `block` of `mb`; two blocks stand in a row.
+/// The macroblock that holds the block at the left of `block` of `mb`; two blocks stand in a row.
 #[inline]
 pub fn left_of2<'a>(mb: &'a MbRecord, left: Option<&'a MbRecord>, block: u8) -> Option<&'a MbRecord>
     requires { block ≤ 3 }
@@ -55,6 +59,7 @@ pub fn left_of2<'a>(mb: &'a MbRecord, left: Option<&'a MbRecord>, block: u8) -> 
     if block & 1 == 0 { left } else { Some(mb) }
 }
 
+/// The macroblock that holds the block above `block` of `mb`.
 #[inline]
 pub fn above_of2<'a>(
     mb: &'a MbRecord,
@@ -85,7 +90,7 @@ fn is_upmost4(block: u8) -> bool
     block & 10 == 0
 }
 
-// The same for 4x4 luma blocks, of which four stand in a row.
+/// The macroblock that holds the 4x4 luma block at the left of `block` of `mb`; four blocks stand in a row.
 #[inline]
 pub fn left_of4<'a>(mb: &'a MbRecord, left: Option<&'a MbRecord>, block: u8) -> Option<&'a MbRecord>
     requires { block ≤ 15 }
@@ -94,6 +99,7 @@ pub fn left_of4<'a>(mb: &'a MbRecord, left: Option<&'a MbRecord>, block: u8) -> 
     if is_leftmost4(block) { left } else { Some(mb) }
 }
 
+/// The macroblock that holds the 4x4 luma block above `block` of `mb`.
 #[inline]
 pub fn above_of4<'a>(
     mb: &'a MbRecord,

@@ -1,5 +1,4 @@
 pub mod Weak
-pub mod Kept
 pub mod Tables
 pub mod Folds
 pub mod Intra

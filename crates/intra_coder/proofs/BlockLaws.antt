@@ -1,5 +1,5 @@
 -- Blocks, place by place.
-use Rattle.std.proofs.Common.{◌≡◌, ◌≤◌, ◌<◌, ◌+◌, ◌-◌, ◌*◌, ℕ, zero, suc, ℤ, pos, negsuc, Bool, w16, w32, ◌+ℤ◌, ◌-ℤ◌, ◌≤ℤ◌, List, length, get_or, set, replicate, map, add-one, subst, inl, inr, refl, sym, ap, ap₂, ◌∙◌, arith}
+use Rattle.std.proofs.Common.{◌≡◌, ◌<◌, ◌+◌, ℕ, zero, suc, ℤ, pos, negsuc, Bool, w16, w32, ◌+ℤ◌, ◌-ℤ◌, List, length, get_or, set, replicate, map, add-one, subst, inl, inr, refl, sym, ap, ap₂, ◌∙◌, arith}
 use Rattle.std.specs.List.{range_with_len}
 use Rattle.std.proofs.lemmas.List.{ext_get_or}
 use Rattle.std.proofs.lemmas.List.FromFn.{length-map-range_with_len, get_or-map-range_with_len}
@@ -18,7 +18,7 @@ use Rattle.spec_residual.specs.Inverse.{inverse4_of, inverse8_of}
 use Rattle.intra_coder.specs.Made.{AllMade4, AllMade8}
 use Rattle.spec_residual.specs.Rescaled.{rescaled}
 use Rattle.spec_residual.proofs.Bounds.{in_row}
-use Rattle.spec_residual.specs.Blocks.{Within, AllWithin, item, listed}
+use Rattle.spec_residual.specs.Blocks.{Within, AllWithin, item}
 use Rattle.spec_residual.proofs.Listed.{is_listed, item-listed}
 use Rattle.spec_built.specs.Residuals.{differences, constructed, coefficients4, coefficients8, built4, built8, built_with_dc, spectrum4, spectrum8, luma_levels4, luma_levels8, levels_without_dc}
 use Rattle.enc_tables.specs.Samples.{clip1}

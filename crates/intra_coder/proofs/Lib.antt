@@ -7,3 +7,5 @@ pub mod InOrderLaws
 pub mod LumaLaws
 pub mod ZeroLaws
 pub mod Luma16Laws
+pub mod ChromaLaws
+pub mod MacroblockLaws

@@ -1,5 +1,5 @@
 -- Blocks of luma samples, step by step.
-use Rattle.std.proofs.Common.{◌≡◌, ◌≤◌, ◌<◌, ◌+◌, ◌-◌, ◌*◌, ◌/◌, ◌%◌, ℕ, ℤ, true, List, length, get_or, refl, sym, ap, ap₂, ◌∙◌, arith}
+use Rattle.std.proofs.Common.{◌≡◌, ◌+◌, ◌*◌, ◌/◌, ◌%◌, ℕ, ℤ, true, List, length, get_or, sym, ap, ap₂, ◌∙◌}
 use Rattle.spec_intra.specs.declared.Avail.{Avail}
 use Rattle.spec_intra.specs.declared.Nb4.{Nb4}
 use Rattle.spec_intra.specs.declared.Nb8.{Nb8}
@@ -9,7 +9,7 @@ use Rattle.spec_built.specs.declared.Site.{Site}
 use Rattle.spec_built.specs.Parts.{block_at, with_block}
 use Rattle.spec_built.specs.Residuals.{built4, built8, luma_levels4, luma_levels8}
 use Rattle.spec_built.specs.InOrder.{built_in_order, coded_in_order, levels_in_order}
-use Rattle.spec_built.specs.Luma.{x4, y4, x8, y8, prediction4, prediction8, build4, build8, choose4, choose8, luma4_built, luma4_levels, luma8_built, luma8_levels}
+use Rattle.spec_built.specs.Luma.{x8, y8, prediction4, prediction8, build4, build8, choose4, choose8, luma4_built, luma4_levels, luma8_built, luma8_levels}
 use Rattle.spec_residual.proofs.Listed.{length-listed}
 use Rattle.spec_residual.specs.Levels.{levels4_of, levels8_of}
 use Rattle.spec_built.proofs.Rebuilt.{rebuilt}

@@ -1,11 +1,11 @@
 -- Samples of rows are samples of planes.
-use Rattle.std.proofs.Common.{◌≡◌, ◌≤◌, ◌<◌, ◌+◌, ◌-◌, ◌*◌, ◌++◌, ℕ, Bool, true, false, List, [], length, take, drop, get_or, set, cond, inl, inr, replicate, refl, sym, ap, ap₂, ◌∙◌, arith, append-nil}
+use Rattle.std.proofs.Common.{◌≡◌, ◌≤◌, ◌<◌, ◌+◌, ◌-◌, ◌*◌, ◌++◌, ℕ, Bool, true, false, List, [], length, take, drop, get_or, set, cond, inl, inr, replicate, sym, ap, ap₂, ◌∙◌, arith, append-nil}
 use Rattle.std.proofs.lemmas.Bool.{cases_lt}
 use Rattle.std.proofs.lemmas.Grind.{common_steps, get_or-set_at}
 use Rattle.std.proofs.lemmas.List.{get_or-set_other}
 use Rattle.picture_planes.specs.declared.plane.Plane.{Plane}
 use Rattle.picture_planes.specs.Samples.{row_of, samples_of}
-use Rattle.picture_planes.proofs.SampleLaws.{row_length, samples_length, row_of_samples, part_of_samples, before_end}
+use Rattle.picture_planes.proofs.SampleLaws.{samples_length, row_of_samples, part_of_samples, before_end}
 use Rattle.spec_intra.specs.Block.{line}
 use Rattle.spec_intra.specs.Near.{line_there, plane_sample}
 use Rattle.intra_coder.proofs.BlockLaws.{is_line}

@@ -1,5 +1,5 @@
 -- Rows of blocks, read and written.
-use Rattle.std.proofs.Common.{◌≡◌, ◌≤◌, ◌<◌, ◌+◌, ◌-◌, ◌*◌, ◌++◌, ℕ, List, [], length, add-one, take, drop, refl, sym, ap, ap₂, ◌∙◌, arith, append_assoc, length-drop}
+use Rattle.std.proofs.Common.{◌≡◌, ◌≤◌, ◌<◌, ◌+◌, ◌*◌, ◌++◌, ℕ, List, [], length, add-one, take, drop, refl, sym, ap, ap₂, ◌∙◌, arith, append_assoc, length-drop}
 use Rattle.std.proofs.lemmas.Grind.{common_steps}
 use Rattle.std.proofs.lemmas.List.{take-append-drop, drop-append-le, drop-drop, take-take}
 use Rattle.std.proofs.Math.Seq.{take-add}
@@ -7,7 +7,7 @@ use Rattle.picture_planes.specs.declared.plane.Plane.{Plane}
 use Rattle.picture_planes.specs.Over.{over}
 use Rattle.picture_planes.specs.Samples.{row_of, with_row, samples_of}
 use Rattle.picture_planes.proofs.SampleLaws.{row_length, samples_length, samples_written, row_of_samples, part_of_samples, before_end}
-use Rattle.spec_built.specs.Parts.{block_rows, with_rows, row_part}
+use Rattle.spec_built.specs.Parts.{block_rows, with_rows}
 
 -- one row more of what was read
 pub row_read : (out part rows : List ℕ) (start n : ℕ) → start + n ≤ length out → length part ≡ n → take start out ≡ rows
@@ -115,12 +115,13 @@ list_next wide x y n j from to k samples out part more long at_from room at_to a
     let end : j * n + n ≤ n * n = before_end j n n more in
     let next : (j + 1) * n ≡ j * n + k = grind arith in
     let part_is : part ≡ take n (drop ((y + j) * wide + x) samples) = is_part ∙ ap₂ (λ (m i : ℕ). take m (drop i samples)) at_to at_from in
-    let part_long : length part ≡ k = ap (λ (l : List ℕ). length l) part_is ∙ long_part samples ((y + j) * wide + x) n (omega arith) ∙ sym at_k in
-    (grind (arith, common_steps),
-     ap (λ (m : ℕ). take m (take (j * n) out ++ (part ++ drop k (drop (j * n) out)))) next
-     ∙ row_read out part (block_rows wide x y n samples j) (j * n) k (omega arith) part_long done
-     ∙ ap (λ (l : List ℕ). block_rows wide x y n samples j ++ l) part_is
-     ∙ sym (rows_more wide x y n samples j))
+    let part_long : length part ≡ k = ap (λ (l : List ℕ). length l) part_is ∙ long_part samples ((y + j) * wide + x) n (omega arith) ∙ sym at_k in (
+      grind (arith, common_steps),
+      ap (λ (m : ℕ). take m (take (j * n) out ++ (part ++ drop k (drop (j * n) out)))) next
+          ∙ row_read out part (block_rows wide x y n samples j) (j * n) k (omega arith) part_long done
+          ∙ ap (λ (l : List ℕ). block_rows wide x y n samples j ++ l) part_is
+          ∙ sym (rows_more wide x y n samples j),
+    )
   where
     long_part : (xs : List ℕ) (from n : ℕ) → from + n ≤ length xs → length (take n (drop from xs)) ≡ n
     long_part xs from n room = grind (arith, common_steps)

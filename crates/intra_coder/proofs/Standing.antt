@@ -1,10 +1,9 @@
 -- The blocks of a macroblock that lies inside a plane, and their neighbours, lie inside it.
-use Rattle.std.proofs.Common.{◌≡◌, ◌≤◌, ◌<◌, ◌+◌, ◌-◌, ◌*◌, ◌/◌, ◌%◌, ◌||◌, ◌&&◌, ℕ, zero, suc, Bool, true, false, cond, nat_lt, refl, sym, ap, ◌∙◌, arith, inl, inr, lit<}
+use Rattle.std.proofs.Common.{◌≡◌, ◌≤◌, ◌<◌, ◌+◌, ◌-◌, ◌*◌, ◌/◌, ◌%◌, ◌||◌, ◌&&◌, ℕ, zero, suc, Bool, true, false, cond, nat_lt, refl, sym, arith, inl, inr, lit<}
 use Rattle.std.proofs.Math.Nat.{mul-le-mul_left}
 use Rattle.std.proofs.lemmas.Bool.{cases_lt}
 use Rattle.std.proofs.lemmas.Bool.Decides.{nat_tests}
 use Rattle.picture_planes.specs.declared.plane.Plane.{Plane}
-use Rattle.spec_intra.specs.declared.Avail.{Avail}
 use Rattle.spec_intra.specs.Near.{block_column, block_row, block_number, block_avail}
 use Rattle.spec_built.specs.declared.Site.{Site}
 use Rattle.spec_built.specs.Luma.{x4, y4, x8, y8}

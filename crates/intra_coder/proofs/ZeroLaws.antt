@@ -1,15 +1,14 @@
 -- The quantiser makes 0 of 0.
-use Rattle.std.proofs.Common.{◌≡◌, ◌≤◌, ◌<◌, ◌+◌, ◌*◌, ◌/◌, ◌^◌, ℕ, zero, suc, ℤ, pos, true, List, set, replicate, length, get_or, refl, sym, ap, ◌∙◌, arith, subst, inl, inr}
+use Rattle.std.proofs.Common.{◌≡◌, ◌<◌, ◌+◌, ◌*◌, ◌/◌, ◌^◌, ℕ, ℤ, pos, true, List, set, replicate, length, sym, ap, ◌∙◌, arith, subst, inl, inr}
 use Rattle.std.proofs.Math.Nat.{div-eq_of_lt}
 use Rattle.std.proofs.lemmas.Bool.{cases_lt}
 use Rattle.std.proofs.lemmas.Grind.{get_or-set_at}
 use Rattle.std.proofs.lemmas.List.{get_or-set_other}
-use Rattle.std.proofs.lemmas.Int.{ints}
 use Rattle.std.proofs.lemmas.Nat.{pow-add, pow_pos}
 use Rattle.spec_residual.specs.declared.BlockKind.{BlockKind}
 use Rattle.spec_residual.specs.declared.BlockKind.TheVariants.{Luma4, Luma8, LumaDc, Chroma4, ChromaDc}
-use Rattle.spec_residual.specs.Blocks.{Within, item}
-use Rattle.spec_residual.specs.Levels.{IsMade, greatest, level_of, multiplier, rounding, share, shift, signed_level}
+use Rattle.spec_residual.specs.Blocks.{item}
+use Rattle.spec_residual.specs.Levels.{IsMade, greatest, level_of, multiplier, rounding, shift, signed_level}
 use Rattle.intra_coder.proofs.BlockLaws.{zero_within, item_of_zeros}
 
 none_of : (m f s : ℕ) → f < 2 ^ s → signed_level m f s (pos 0) ≡ pos 0

@@ -14,7 +14,7 @@ use spec_built::Site;
 
 #[inline(always)]
 #[tactic(auto, using(crate::proofs::Standing::readable8))]
-fn prediction8(plane: &Plane, site: &Site, modes: &[u8; 4], b: u32) -> [u8; 64]
+fn prediction8(plane: &Plane, site: &Site, modes: &[u8; 16], b: u32) -> [u8; 64]
     requires block { b < 4 }
     requires stands { Stands site.now plane.now }
     requires mode { slice_index modes.now b < 9 }
@@ -27,7 +27,13 @@ fn prediction8(plane: &Plane, site: &Site, modes: &[u8; 4], b: u32) -> [u8; 64]
 
 // Codes block `b` and builds it in the plane.
 #[inline(always)]
-fn code_block8(plane: &mut Plane, source: &Plane, site: &Site, modes: &[u8; 4], b: u32) -> [i16; 64]
+fn code_block8(
+    plane: &mut Plane,
+    source: &Plane,
+    site: &Site,
+    modes: &[u8; 16],
+    b: u32,
+) -> [i16; 64]
     requires block { b < 4 }
     requires in_range { site.now.qp ≤ 51 }
     requires stands { Stands site.now plane.old }
@@ -47,8 +53,8 @@ fn code_block8(plane: &mut Plane, source: &Plane, site: &Site, modes: &[u8; 4], 
 }
 
 /// Codes the luma samples of an Intra_8x8 macroblock: each of the four blocks is predicted from the samples built so far, its
-/// levels are those of the source's difference, and it is built in the plane. The levels are those of block b at 64b.
-pub fn code_luma8(plane: &mut Plane, source: &Plane, site: &Site, modes: &[u8; 4]) -> [i16; 256]
+/// levels are those of the source's difference, and it is built in the plane. Of the modes the first four count. The levels are those of block b at 64b.
+pub fn code_luma8(plane: &mut Plane, source: &Plane, site: &Site, modes: &[u8; 16]) -> [i16; 256]
     requires in_range { site.now.qp ≤ 51 }
     requires stands { Stands site.now plane.old }
     requires alike { SameShape plane.old source.now }

@@ -48,6 +48,6 @@ best_chroma_is wide wide' cb cr avail x y near_cb near_cr source_cb source_cr r 
     is_r
     ∙ ap₂ (λ (n : NbC) (s : List ℕ). best_mode 4 (λ m. is_allowed 2 m n.avail) (λ m. sad s (predicted_chroma m n) + sad source_cr (predicted_chroma m near_cr))) is_cb is_source_cb
     ∙ ap₂ (λ (n : NbC) (s : List ℕ). best_mode 4 (λ m. is_allowed 2 m avail)
-        (λ m. sad (block_at wide x y 8 cb) (predicted_chroma m (neighbours_chroma (plane_sample wide cb) avail x y)) + sad s (predicted_chroma m n)))
-        (is_cr ∙ ap (λ (w : ℕ). neighbours_chroma (plane_sample w cr) avail x y) (sym same))
-        (is_source_cr ∙ ap (λ (w : ℕ). block_at w x y 8 cr) (sym same))
+    (λ m. sad (block_at wide x y 8 cb) (predicted_chroma m (neighbours_chroma (plane_sample wide cb) avail x y)) + sad s (predicted_chroma m n)))
+    (is_cr ∙ ap (λ (w : ℕ). neighbours_chroma (plane_sample w cr) avail x y) (sym same))
+    (is_source_cr ∙ ap (λ (w : ℕ). block_at w x y 8 cr) (sym same))

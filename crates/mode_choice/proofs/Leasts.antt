@@ -1,5 +1,5 @@
 -- The least of one mode more.
-use Rattle.std.proofs.Common.{◌≡◌, ℕ, ◌+◌, ◌++◌, ◌<◌, Bool, true, false, List, [], ◌∷◌, map, cond, refl, sym, ap, ◌∙◌, arith, append-nil}
+use Rattle.std.proofs.Common.{◌≡◌, ℕ, ◌+◌, ◌++◌, Bool, true, false, List, [], ◌∷◌, map, cond, refl, ap, ◌∙◌, arith, append-nil}
 use Rattle.std.specs.List.{range_with_len, filter}
 use Rattle.std.proofs.lemmas.List.FromFn.{filter_of_map_range_with_len_more}
 use Rattle.enc_tables.specs.Choice.{lesser, first_least}
@@ -19,7 +19,7 @@ pub best_more : (n : ℕ) (p : ℕ → Bool) (c : ℕ → ℕ) → best_mode (n 
 unfolding best_mode allowed_modes
 best_more n p c =
     ap (λ (l : List ModeCost). first_least cost_of_mode above_all l)
-      (filter_of_map_range_with_len_more (λ (m : ModeCost). p m.mode) (with_cost c) 0 n n (omega arith))
+    (filter_of_map_range_with_len_more (λ (m : ModeCost). p m.mode) (with_cost c) 0 n n (omega arith))
     ∙ least_next (filter (λ (m : ModeCost). p m.mode) (map (with_cost c) (range_with_len 0 n))) (with_cost c n) (p n)
 
 pub best_none : (p : ℕ → Bool) (c : ℕ → ℕ) → above_all ≡ best_mode 0 p c

@@ -1,2 +1,4 @@
 pub mod Leasts
 pub mod Bests
+pub mod Insides
+pub mod Planned

@@ -41,8 +41,11 @@ struct Chroma {
 
 impl Costs for Block4 {
     ghost count = { λ b. 9 };
+
     ghost bound = { λ b. 4080 };
+
     ghost allowed_at = { λ b m. may_have 4 m b.line.avail };
+
     ghost cost_at = { λ b m. sad b.source (from_edge 4 m b.line.avail b.line.samples) };
 
     fn is_allowed(&self, mode: u8) -> bool {
@@ -56,8 +59,11 @@ impl Costs for Block4 {
 
 impl Costs for Block8 {
     ghost count = { λ b. 9 };
+
     ghost bound = { λ b. 16320 };
+
     ghost allowed_at = { λ b m. may_have 8 m b.line.avail };
+
     ghost cost_at = { λ b m. sad b.source (from_edge 8 m b.line.avail b.line.samples) };
 
     fn is_allowed(&self, mode: u8) -> bool {
@@ -71,8 +77,11 @@ impl Costs for Block8 {
 
 impl Costs for Block16 {
     ghost count = { λ b. 4 };
+
     ghost bound = { λ b. 65280 };
+
     ghost allowed_at = { λ b m. may_have 16 m b.near.avail };
+
     ghost cost_at = { λ b m. sad b.source (predicted16 m b.near) };
 
     fn is_allowed(&self, mode: u8) -> bool {
@@ -86,8 +95,11 @@ impl Costs for Block16 {
 
 impl Costs for Chroma {
     ghost count = { λ b. 4 };
+
     ghost bound = { λ b. 32640 };
+
     ghost allowed_at = { λ b m. may_have 2 m b.near_cb.avail };
+
     ghost cost_at = { λ b m. sad b.source_cb (predicted_chroma m b.near_cb) + sad b.source_cr (predicted_chroma m b.near_cr) };
 
     fn is_allowed(&self, mode: u8) -> bool {

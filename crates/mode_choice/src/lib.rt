@@ -3,4 +3,8 @@
 
 mod blocks;
 mod difference;
+mod macroblock;
 mod modes;
+mod rows;
+
+pub use rows::plan_row;

@@ -8,8 +8,11 @@ use spec_choice::ModeCost;
 /// What the modes of a block cost.
 pub trait Costs {
     ghost count: { Self → ℕ };
+
     ghost bound: { Self → ℕ };
+
     ghost allowed_at: { Self → ℕ → Bool };
+
     ghost cost_at: { Self → ℕ → ℕ };
 
     /// Whether the block may have the mode.

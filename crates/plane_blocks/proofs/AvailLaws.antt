@@ -1,6 +1,6 @@
 -- Macroblocks by column and row, and by address.
-use Rattle.std.proofs.Common.{◌≡◌, ◌≤◌, ◌<◌, ◌+◌, ◌-◌, ◌*◌, ◌%◌, ◌==◌, ◌&&◌, nat_lt, nat_le, not, ℕ, zero, suc, Bool, true, false, cond, inl, inr, refl, sym, ap, ◌∙◌, arith}
-use Rattle.std.proofs.lemmas.Bool.{cases_lt, and_parts, ltb-true, lt-ltb, leb-true, le-leb, eqb-true, eqb-false}
+use Rattle.std.proofs.Common.{◌≡◌, ◌≤◌, ◌<◌, ◌+◌, ◌-◌, ◌*◌, ◌%◌, ◌==◌, ◌&&◌, nat_lt, nat_le, not, ℕ, zero, suc, Bool, true, false, inl, inr, refl, sym, ap, ◌∙◌, arith}
+use Rattle.std.proofs.lemmas.Bool.{cases_lt, and_parts, ltb-true, lt-ltb, leb-true, le-leb, eqb-true}
 use Rattle.std.proofs.Math.Nat.{mul-le-mul_right, mul-add-mod_self_right, mod-eq_of_lt}
 use Rattle.spec_intra.specs.declared.Avail.{Avail}
 use Rattle.spec_intra.specs.Near.{macroblock_avail}
@@ -44,60 +44,60 @@ rows_apart f r w h =
 
 rows_from : (f r w c : ℕ) → c < w → f * w + w ≤ r * w + c → f < r
 rows_from f r w c h k = elim (cases_lt f r) [
-    | inl l ↦ l
-    | inr g ↦ (let m : r * w ≤ f * w = mul-le-mul_right w g in absurd (omega arith))
-  ]
+  | inl l ↦ l
+  | inr g ↦ (let m : r * w ≤ f * w = mul-le-mul_right w g in absurd (omega arith))
+]
 
-left_is : (w f r c : ℕ) → c < w → f ≤ r → nat_lt 0 c ≡ (macroblock_avail w (f * w) (r * w + c)).left
+pub left_is : (w f r c : ℕ) → c < w → f ≤ r → nat_lt 0 c ≡ (macroblock_avail w (f * w) (r * w + c)).left
 left_is w f r c h g =
     let m = column_of r w c h in
     let k : f * w ≤ r * w = mul-le-mul_right w g in
     bool_is (nat_lt 0 c) _
-      (λ t. let some : 0 < c = ltb-true 0 c t in
-        both (not ((r * w + c) % w == 0)) (nat_le (f * w + 1) (r * w + c)) (rw m (nonzero c some)) (le-leb (f * w + 1) (r * w + c) (omega arith)))
-      (λ t. let n = (and_parts (not ((r * w + c) % w == 0)) (nat_le (f * w + 1) (r * w + c)) t).0 in
-        lt-ltb 0 c (positive c (rw m at n)))
+    (λ t. let some : 0 < c = ltb-true 0 c t in
+    both (not ((r * w + c) % w == 0)) (nat_le (f * w + 1) (r * w + c)) (rw m (nonzero c some)) (le-leb (f * w + 1) (r * w + c) (omega arith)))
+    (λ t. let n = (and_parts (not ((r * w + c) % w == 0)) (nat_le (f * w + 1) (r * w + c)) t).0 in
+    lt-ltb 0 c (positive c (rw m at n)))
 
-above_is : (w f r c : ℕ) → c < w → nat_lt f r ≡ (macroblock_avail w (f * w) (r * w + c)).above
+pub above_is : (w f r c : ℕ) → c < w → nat_lt f r ≡ (macroblock_avail w (f * w) (r * w + c)).above
 above_is w f r c h =
     bool_is (nat_lt f r) (nat_le (f * w + w) (r * w + c))
-      (λ t. let k = rows_apart f r w (ltb-true f r t) in le-leb (f * w + w) (r * w + c) (omega arith))
-      (λ t. lt-ltb f r (rows_from f r w c h (leb-true (f * w + w) (r * w + c) t)))
+    (λ t. let k = rows_apart f r w (ltb-true f r t) in le-leb (f * w + w) (r * w + c) (omega arith))
+    (λ t. lt-ltb f r (rows_from f r w c h (leb-true (f * w + w) (r * w + c) t)))
 
-corner_is : (w f r c : ℕ) → c < w → (nat_lt 0 c && nat_lt f r) ≡ (macroblock_avail w (f * w) (r * w + c)).corner
+pub corner_is : (w f r c : ℕ) → c < w → (nat_lt 0 c && nat_lt f r) ≡ (macroblock_avail w (f * w) (r * w + c)).corner
 corner_is w f r c h =
     let m = column_of r w c h in
     bool_is (nat_lt 0 c && nat_lt f r) _
-      (λ t. let p = and_parts (nat_lt 0 c) (nat_lt f r) t in
-        let some : 0 < c = ltb-true 0 c p.0 in
-        let k = rows_apart f r w (ltb-true f r p.1) in
-        both (not ((r * w + c) % w == 0)) (nat_le (f * w + w + 1) (r * w + c)) (rw m (nonzero c some)) (le-leb (f * w + w + 1) (r * w + c) (omega arith)))
-      (λ t. let p = and_parts (not ((r * w + c) % w == 0)) (nat_le (f * w + w + 1) (r * w + c)) t in
-        let k = leb-true (f * w + w + 1) (r * w + c) p.1 in
-        both (nat_lt 0 c) (nat_lt f r) (lt-ltb 0 c (positive c (rw m at p.0))) (lt-ltb f r (rows_from f r w c h (omega arith))))
+    (λ t. let p = and_parts (nat_lt 0 c) (nat_lt f r) t in
+    let some : 0 < c = ltb-true 0 c p.0 in
+    let k = rows_apart f r w (ltb-true f r p.1) in
+    both (not ((r * w + c) % w == 0)) (nat_le (f * w + w + 1) (r * w + c)) (rw m (nonzero c some)) (le-leb (f * w + w + 1) (r * w + c) (omega arith)))
+    (λ t. let p = and_parts (not ((r * w + c) % w == 0)) (nat_le (f * w + w + 1) (r * w + c)) t in
+    let k = leb-true (f * w + w + 1) (r * w + c) p.1 in
+    both (nat_lt 0 c) (nat_lt f r) (lt-ltb 0 c (positive c (rw m at p.0))) (lt-ltb f r (rows_from f r w c h (omega arith))))
 
 not_last : (r w c : ℕ) → c < w → not ((r * w + c + 1) % w == 0) ≡ true → c + 1 < w
 not_last r w c h n = elim (cases_lt (c + 1) w) [
-    | inl l ↦ l
-    | inr g ↦ (let last : c + 1 ≡ w = omega arith in
-        let e : r * w + c + 1 ≡ (r + 1) * w + 0 = omega (arith, one_more r w) in
-        let z : (r * w + c + 1) % w ≡ 0 = ap (λ (a : ℕ). a % w) e ∙ column_of (r + 1) w 0 (omega arith) in
-        absurd (not_is (0 == 0) (rw z at n) refl))
-  ]
+  | inl l ↦ l
+  | inr g ↦ (let last : c + 1 ≡ w = omega arith in
+      let e : r * w + c + 1 ≡ (r + 1) * w + 0 = omega (arith, one_more r w) in
+      let z : (r * w + c + 1) % w ≡ 0 = ap (λ (a : ℕ). a % w) e ∙ column_of (r + 1) w 0 (omega arith) in
+      absurd (not_is (0 == 0) (rw z at n) refl))
+]
 
-beyond_is : (w f r c : ℕ) → c < w → (nat_lt f r && nat_lt c (w - 1)) ≡ (macroblock_avail w (f * w) (r * w + c)).above_right
+pub beyond_is : (w f r c : ℕ) → c < w → (nat_lt f r && nat_lt c (w - 1)) ≡ (macroblock_avail w (f * w) (r * w + c)).above_right
 beyond_is w f r c h =
     bool_is (nat_lt f r && nat_lt c (w - 1)) _
-      (λ t. let p = and_parts (nat_lt f r) (nat_lt c (w - 1)) t in
-        let more : c < w - 1 = ltb-true c (w - 1) p.1 in
-        let k = rows_apart f r w (ltb-true f r p.0) in
-        let same : r * w + c + 1 ≡ r * w + (c + 1) = omega arith in
-        let m : (r * w + c + 1) % w ≡ c + 1 = ap (λ (a : ℕ). a % w) same ∙ column_of r w (c + 1) (omega arith) in
-        both (not ((r * w + c + 1) % w == 0)) (nat_le (f * w + w) (r * w + c + 1)) (rw m (nonzero (c + 1) (omega arith))) (le-leb (f * w + w) (r * w + c + 1) (omega arith)))
-      (λ t. let p = and_parts (not ((r * w + c + 1) % w == 0)) (nat_le (f * w + w) (r * w + c + 1)) t in
-        let more = not_last r w c h p.0 in
-        let k = leb-true (f * w + w) (r * w + c + 1) p.1 in
-        both (nat_lt f r) (nat_lt c (w - 1)) (lt-ltb f r (rows_from f r w (c + 1) more (omega arith))) (lt-ltb c (w - 1) (omega arith)))
+    (λ t. let p = and_parts (nat_lt f r) (nat_lt c (w - 1)) t in
+    let more : c < w - 1 = ltb-true c (w - 1) p.1 in
+    let k = rows_apart f r w (ltb-true f r p.0) in
+    let same : r * w + c + 1 ≡ r * w + (c + 1) = omega arith in
+    let m : (r * w + c + 1) % w ≡ c + 1 = ap (λ (a : ℕ). a % w) same ∙ column_of r w (c + 1) (omega arith) in
+    both (not ((r * w + c + 1) % w == 0)) (nat_le (f * w + w) (r * w + c + 1)) (rw m (nonzero (c + 1) (omega arith))) (le-leb (f * w + w) (r * w + c + 1) (omega arith)))
+    (λ t. let p = and_parts (not ((r * w + c + 1) % w == 0)) (nat_le (f * w + w) (r * w + c + 1)) t in
+    let more = not_last r w c h p.0 in
+    let k = leb-true (f * w + w) (r * w + c + 1) p.1 in
+    both (nat_lt f r) (nat_lt c (w - 1)) (lt-ltb f r (rows_from f r w (c + 1) more (omega arith))) (lt-ltb c (w - 1) (omega arith)))
 
 pub avail_is : (w f r c : ℕ) (corner beyond : Bool) → c < w → f ≤ r → corner ≡ (nat_lt 0 c && nat_lt f r) → beyond ≡ (nat_lt f r && nat_lt c (w - 1))
     → (let a : Avail = record { left = nat_lt 0 c; above = nat_lt f r; corner = corner; above_right = beyond } in a ≡ macroblock_avail w (f * w) (r * w + c))

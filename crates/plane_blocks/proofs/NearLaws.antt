@@ -1,11 +1,11 @@
 -- Samples of rows are samples of planes.
-use Rattle.std.proofs.Common.{◌≡◌, ◌≤◌, ◌<◌, ◌+◌, ◌-◌, ◌*◌, ◌++◌, ℕ, Bool, true, false, List, [], length, take, drop, get_or, set, cond, inl, inr, replicate, map, refl, sym, ap, ap₂, ◌∙◌, arith, append-nil}
+use Rattle.std.proofs.Common.{◌≡◌, ◌≤◌, ◌<◌, ◌+◌, ◌-◌, ◌*◌, ◌++◌, ℕ, Bool, true, false, List, [], length, take, drop, get_or, set, cond, inl, inr, replicate, map, sym, ap, ap₂, ◌∙◌, arith, append-nil}
 use Rattle.std.proofs.lemmas.Bool.{cases_lt}
 use Rattle.std.proofs.lemmas.Grind.{common_steps, get_or-set_at}
 use Rattle.std.proofs.lemmas.List.{get_or-set_other}
 use Rattle.picture_planes.specs.declared.plane.Plane.{Plane}
 use Rattle.picture_planes.specs.Samples.{row_of, samples_of}
-use Rattle.picture_planes.proofs.SampleLaws.{row_length, samples_length, row_of_samples, part_of_samples, before_end}
+use Rattle.picture_planes.proofs.SampleLaws.{samples_length, row_of_samples, part_of_samples, before_end}
 use Rattle.spec_intra.specs.Block.{line}
 use Rattle.spec_intra.specs.Near.{line_there, plane_sample}
 use Rattle.std.specs.List.{range_with_len}
@@ -46,12 +46,12 @@ pub above_is : (p : Plane) (there : Bool) (n x y k : ℕ) (row part : List ℕ) 
 above_is p there n x y k row part is later inside wide at_k is_row is_part =
     let room : (y - 1) * p.width + p.width ≤ length (samples_of p) = omega (arith, samples_length p, before_end (y - 1) p.height p.width (omega arith)) in
     let parts : part ≡ take n (drop ((y - 1) * p.width + x) (samples_of p)) =
-      is_part ∙ ap₂ (λ (m : ℕ) (r : List ℕ). take m (drop x r)) at_k is_row ∙ part_of_samples p (y - 1) x n (omega arith) wide in
+    is_part ∙ ap₂ (λ (m : ℕ) (r : List ℕ). take m (drop x r)) at_k is_row ∙ part_of_samples p (y - 1) x n (omega arith) wide in
     there_is there n (λ k. plane_sample p.width (samples_of p) (x + k) (y - 1)) part is
     (ap (λ (l : List ℕ). length l) parts ∙ part_long (samples_of p) n ((y - 1) * p.width + x) (omega arith))
     (λ j h. ap (λ (l : List ℕ). get_or l j 0) parts
-      ∙ in_part (samples_of p) n ((y - 1) * p.width + x) j h (omega arith)
-      ∙ ap (λ (m : ℕ). get_or (samples_of p) m 0) (let e : (y - 1) * p.width + x + j ≡ (y - 1) * p.width + (x + j) = omega arith in e))
+    ∙ in_part (samples_of p) n ((y - 1) * p.width + x) j h (omega arith)
+    ∙ ap (λ (m : ℕ). get_or (samples_of p) m 0) (let e : (y - 1) * p.width + x + j ≡ (y - 1) * p.width + (x + j) = omega arith in e))
 
 pub sample_next : (f : ℕ → ℕ) (xs : List ℕ) (i v : ℕ) → i < length xs → v ≡ f i → ((k : ℕ) → k < i → get_or xs k 0 ≡ f k) → (k : ℕ) → k < i + 1 → get_or (set xs i v) k 0 ≡ f k
 sample_next f xs i v inside is done k h =
@@ -59,7 +59,6 @@ sample_next f xs i v inside is done k h =
       | inl l ↦ get_or-set_other xs i k v 0 (λ z. absurd (omega arith)) ∙ done k l
       | inr g ↦ (let e : k ≡ i = omega arith in get_or-set_at xs i k v 0 e inside ∙ is ∙ ap f (sym e))
     ]
-
 
 -- a second half written over zeros
 pub beside : (n : ℕ) (u v zeros first second : List ℕ) → u ≡ first → v ≡ second → length first ≡ n → length zeros ≡ n

@@ -1,11 +1,9 @@
 -- Rows of blocks, read.
-use Rattle.std.proofs.Common.{◌≡◌, ◌≤◌, ◌<◌, ◌+◌, ◌-◌, ◌*◌, ◌++◌, ℕ, List, [], length, add-one, take, drop, refl, sym, ap, ap₂, ◌∙◌, arith, append_assoc, length-drop}
+use Rattle.std.proofs.Common.{◌≡◌, ◌≤◌, ◌<◌, ◌+◌, ◌*◌, ◌++◌, ℕ, List, [], length, add-one, take, drop, refl, sym, ap, ap₂, ◌∙◌, arith}
 use Rattle.std.proofs.lemmas.Grind.{common_steps}
-use Rattle.std.proofs.lemmas.List.{take-append-drop, drop-append-le, drop-drop, take-take}
-use Rattle.std.proofs.Math.Seq.{take-add}
 use Rattle.picture_planes.specs.declared.plane.Plane.{Plane}
 use Rattle.picture_planes.specs.Samples.{row_of, samples_of}
-use Rattle.picture_planes.proofs.SampleLaws.{row_length, samples_length, samples_written, row_of_samples, part_of_samples, before_end}
+use Rattle.picture_planes.proofs.SampleLaws.{row_length, part_of_samples, before_end}
 use Rattle.spec_built.specs.Parts.{block_rows}
 
 -- one row more of what was read

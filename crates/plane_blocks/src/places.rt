@@ -64,11 +64,9 @@ fn above_right(n: u32, mb: &Avail, column: u32, row: u32) -> bool
     requires few { n ≤ 4 }
     requires column { column < n }
     requires row { row < n }
-    ensures {
-        result ≡ cond (nat_lt 0 row)
-          (nat_lt (column + 1) n && nat_lt (block_number (column + 1) (row - 1)) (block_number column row))
-          (cond (nat_lt (column + 1) n) mb.now.above mb.now.above_right)
-    }
+    ensures { result ≡ cond (nat_lt 0 row)
+        (nat_lt (column + 1) n && nat_lt (block_number (column + 1) (row - 1)) (block_number column row))
+        (cond (nat_lt (column + 1) n) mb.now.above mb.now.above_right) }
 {
     let more = column + 1 < n;
     if row > 0 {

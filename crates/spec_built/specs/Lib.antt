@@ -3,5 +3,5 @@ pub mod Residuals
 pub mod InOrder
 pub mod Luma
 pub mod Chroma
-pub mod Macroblocks
+pub mod Records
 pub mod Slices

@@ -1,29 +1,28 @@
--- Slices of intra macroblocks: their samples, and the records that the encoder makes. `across` is how many macroblocks a picture is wide, and
--- `first` the address of the slice's first macroblock.
-use Rattle.std.specs.Prelude.{ℕ, zero, suc, List, [], ◌∷◌, ◌++◌, ◌+◌, ◌*◌, ◌/◌, ◌%◌}
+-- The records that the encoder makes of a slice of intra macroblocks. `width` is how many macroblocks a picture is wide, and `first` the
+-- address of the slice's first macroblock.
+use Rattle.std.specs.Prelude.{ℕ, zero, suc, Bool, true, false, List, [], ◌∷◌, ◌++◌, ◌+◌, ◌*◌, replicate, if◌then◌else◌}
 use Rattle.enc_tables.specs.declared.records.MbKind.{MbKind}
 use Rattle.enc_tables.specs.declared.records.MbPlan.{MbPlan}
 use Rattle.enc_tables.specs.declared.records.MbRecord.{MbRecord}
+use Rattle.enc_tables.specs.Kinds.{is_16x16}
 use Rattle.spec_film.specs.Films.{Planes}
-use Rattle.spec_intra.specs.Near.{macroblock_avail}
 use Rattle.spec_built.specs.declared.Site.{Site}
-use Rattle.spec_built.specs.Macroblocks.{macroblock_built, coded_record}
+use Rattle.spec_built.specs.Records.{site_of, slice_built, intra4_record, intra8_record, intra16_record}
 
--- the macroblock at this address
-abbrev pub site_of : ℕ → ℕ → ℕ → ℕ → Site
-site_of across first qp address = record { x = 16 * (address % across); y = 16 * (address / across); near = macroblock_avail across first address; qp = qp }
+abbrev pub is_8x8 : MbKind → Bool
+is_8x8 MbKind.Intra8 = true
+is_8x8 _ = false
 
--- the planes with the macroblocks from the n-th of the slice on built, each by its own quantisation parameter
-unfoldable pub built_from : ℕ → ℕ → ℕ → List MbRecord → Planes → Planes
-built_from across first n [] p = p
-built_from across first n (r ∷ rs) p = built_from across first (suc n) rs (macroblock_built across (site_of across first r.qp (first + n)) r p)
-
-unfoldable pub slice_built : ℕ → ℕ → List MbRecord → Planes → Planes
-slice_built across first records p = built_from across first 0 records p
+-- the record of a macroblock of this kind, coded by its plan from the source, over what was built before
+unfoldable pub coded_record : ℕ → Site → MbKind → MbPlan → Planes → Planes → MbRecord
+coded_record width site kind plan source p =
+    if is_16x16 kind then intra16_record (16 * width) site plan.mode16 plan.chroma_mode source p
+    else if is_8x8 kind then intra8_record (16 * width) site (plan.modes8 ++ replicate 12 0) plan.chroma_mode source p
+    else intra4_record (16 * width) site plan.modes4 plan.chroma_mode source p
 
 -- the first n records of a slice, with the kind and the plan of each macroblock by its address
 unfoldable pub coded_slice : ℕ → ℕ → ℕ → (ℕ → MbKind) → (ℕ → MbPlan) → Planes → Planes → ℕ → List MbRecord
-coded_slice across first qp kinds plans source p zero = []
-coded_slice across first qp kinds plans source p (suc n) =
-    let before = coded_slice across first qp kinds plans source p n in
-    before ++ coded_record across (site_of across first qp (first + n)) (kinds (first + n)) (plans (first + n)) source (slice_built across first before p) ∷ []
+coded_slice width first qp kinds plans source p zero = []
+coded_slice width first qp kinds plans source p (suc n) =
+    let before = coded_slice width first qp kinds plans source p n in
+    before ++ coded_record width (site_of width first (first + n) qp) (kinds (first + n)) (plans (first + n)) source (slice_built width first before p) ∷ []

@@ -37,7 +37,7 @@ best_chroma wide cb cr avail x y =
     let near_cb = neighbours_chroma (plane_sample wide cb) avail x y in
     let near_cr = neighbours_chroma (plane_sample wide cr) avail x y in
     best_mode 4 (λ m. is_allowed 2 m avail)
-      (λ m. sad (block_at wide x y 8 cb) (predicted_chroma m near_cb) + sad (block_at wide x y 8 cr) (predicted_chroma m near_cr))
+    (λ m. sad (block_at wide x y 8 cb) (predicted_chroma m near_cb) + sad (block_at wide x y 8 cr) (predicted_chroma m near_cr))
 
 -- 4x4 block b and 8x8 block k of the macroblock whose upper left sample is at (x, y)
 abbrev pub best4_of : ℕ → List ℕ → Avail → ℕ → ℕ → ℕ → ModeCost

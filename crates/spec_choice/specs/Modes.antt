@@ -1,5 +1,5 @@
 -- The best mode of a block.
-use Rattle.std.specs.Prelude.{ℕ, zero, suc, Bool, List, ◌+◌, ◌-◌, ◌^◌, map, slice_index, length}
+use Rattle.std.specs.Prelude.{ℕ, Bool, List, ◌^◌, map, slice_index, length}
 use Rattle.std.specs.Int.{abs_diff}
 use Rattle.std.specs.List.{range_with_len, filter}
 use Rattle.spec_intra.specs.Slopes.{sum_below}

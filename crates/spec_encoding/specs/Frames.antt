@@ -7,7 +7,7 @@ use Rattle.spec_bits.specs.declared.heads.SeqHead.{SeqHead}
 use Rattle.spec_stream.specs.Decode.{across_of, down_of}
 use Rattle.spec_stream.specs.Samples.{cropped}
 use Rattle.spec_slice_layer.specs.Layer.{Format, Slice, read_layer}
-use Rattle.spec_built.specs.Slices.{slice_built}
+use Rattle.spec_built.specs.Records.{slice_built}
 use Rattle.spec_filter.specs.Pictures.{picture_filtered}
 use Rattle.spec_pictures.specs.Decode.{Reading, decode_by}
 

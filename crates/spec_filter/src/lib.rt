@@ -2,6 +2,13 @@
 //! across it, and in which order a picture's edges are taken.
 #![tactic(auto)]
 
+ghost use Rattle.std.specs.Prelude.{◌≡◌, ℕ, ℤ, List, true};
+ghost use Rattle.std.specs.List.{All};
+ghost use Rattle.enc_tables.specs.declared.records.MbRecord.{MbRecord};
+ghost use Rattle.enc_tables.specs.Kinds.{is_pcm};
+ghost use Rattle.spec_film.specs.Films.{Planes};
+ghost use Rattle.spec_filter.specs.Pictures.{picture_filtered};
+
 /// The samples of a line across an edge: `p0` and `q0` meet at the edge, and the others stand behind them, farther and farther
 /// away.
 #[derive(Clone, Copy)]
@@ -69,3 +76,8 @@ pub struct MbEdges {
     /// Of chroma.
     pub chroma: EdgeIndices,
 }
+
+/// The filter leaves a picture of I_PCM macroblocks as it is.
+pub fn pcm_pictures_stay()
+    ensures { (pictures0 pictures1 : List ℤ) (records : List MbRecord) (width : ℕ) (planes : Planes) → All (λ r. is_pcm r.kind ≡ true) records → picture_filtered pictures0 pictures1 records width planes ≡ planes }
+{}

@@ -1,4 +1,4 @@
-use Rattle.deblock.proofs.Kept.{line_left, line_weak, line_strong}
+use Rattle.spec_filter.proofs.Kept.{line_left, line_weak, line_strong}
 use Rattle.std.proofs.Common.{◌∙◌, ap}
 use Rattle.spec_filter.specs.Edges.{with_line}
 use Rattle.spec_filter.specs.declared.SampleLine.{SampleLine}

@@ -1,5 +1,5 @@
 use Rattle.std.proofs.Common.{sym}
-use Rattle.deblock.proofs.Kept.{part_left}
+use Rattle.spec_filter.proofs.Kept.{part_left}
 use Rattle.deblock.proofs.edges.filter_part.Goals as goal
 
 pub returns-then-rule-eq0 : goal.returns-then-rule-eq0

@@ -1,4 +1,4 @@
-use Rattle.std.proofs.Common.{arith, ℕ, ℤ, pos, ◌-ℤ◌, get_or, w16, ◌∙◌, sym, subst}
+use Rattle.std.proofs.Common.{arith, ℤ, pos, ◌-ℤ◌, get_or, w16, ◌∙◌, sym, subst}
 use Rattle.std.proofs.lemmas.Int.{to_z-of_z}
 use Rattle.std.proofs.lemmas.List.{length-set}
 use mir.Val.{SFits}

@@ -1,4 +1,4 @@
-use Rattle.std.proofs.Common.{◌≡◌, ◌<◌, ℕ, ℤ, List, get_or, length, pos, replicate, set, arith, refl, ◌∙◌, sym, ap, ap₂, subst, w32, lit<}
+use Rattle.std.proofs.Common.{◌≡◌, ℕ, ℤ, get_or, pos, replicate, set, arith, refl, ◌∙◌, sym, ap, ap₂, subst, w32}
 use Rattle.std.proofs.lemmas.Int.{to_z-of_z}
 use Rattle.std.proofs.lemmas.List.{length-set}
 use mir.Val.{SFits}

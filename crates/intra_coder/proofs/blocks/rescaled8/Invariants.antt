@@ -1,7 +1,7 @@
-use Rattle.std.proofs.Common.{◌≡◌, ◌<◌, ℕ, ℤ, pos, Bool, length, get_or, set, replicate}
+use Rattle.std.proofs.Common.{◌≡◌, pos, Bool, length, get_or, set, replicate}
 use Rattle.enc_tables.specs.declared.transform.TheConstants.{ZIGZAG8}
 use Rattle.enc_tables.specs.Steps.{steps}
-use Rattle.spec_residual.specs.Blocks.{AllWithin, Within, item}
+use Rattle.spec_residual.specs.Blocks.{AllWithin, item}
 use Rattle.spec_residual.specs.declared.BlockKind.TheVariants.{Luma8}
 use Rattle.spec_residual.specs.Rescaled.{rescaled}
 use Rattle.intra_coder.specs.Made.{AllMade8}

@@ -1,4 +1,4 @@
-use Rattle.std.proofs.Common.{◌≡◌, ◌<◌, ℕ, ℤ, List, pos, set, length, true, arith, sym, subst, ap, ◌∙◌, w32}
+use Rattle.std.proofs.Common.{ℤ, set, true, arith, sym, subst, ap, ◌∙◌, w32}
 use Rattle.std.proofs.lemmas.Int.{to_z-of_z}
 use Rattle.spec_residual.specs.Blocks.{Within}
 use Rattle.spec_residual.specs.Inverse.{inverse4_of}

@@ -1,12 +1,10 @@
 use Rattle.std.proofs.Common.{◌≡◌, ◌<◌, ℕ, ℤ, List, get_or, length, pos, true, replicate, set, arith, refl, ◌∙◌, sym, ap, subst, w16}
 use Rattle.std.proofs.lemmas.Int.{to_z-of_z}
 use Rattle.std.proofs.lemmas.List.{length-set}
-use mir.Val.{SFits}
 use Rattle.enc_tables.specs.declared.transform.TheConstants.{ZIGZAG4}
 use Rattle.enc_tables.specs.Steps.{steps}
 use Rattle.spec_residual.specs.Blocks.{Within, item}
 use Rattle.spec_residual.specs.declared.BlockKind.TheVariants.{LumaDc}
-use Rattle.spec_residual.specs.Levels.{IsMade}
 use Rattle.spec_built.specs.Luma.{unscanned}
 use Rattle.intra_coder.proofs.BlockLaws.{none_assigned, one_assigned, zeros_within, set_within, fits16_from_within, made_at}
 use Rattle.intra_coder.proofs.ZeroLaws.{zeros_made, set_made}

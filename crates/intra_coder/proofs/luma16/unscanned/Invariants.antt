@@ -1,7 +1,7 @@
-use Rattle.std.proofs.Common.{◌≡◌, ◌<◌, ℕ, ℤ, pos, true, length, get_or, set, replicate}
+use Rattle.std.proofs.Common.{◌≡◌, ℕ, pos, true, length, get_or, set, replicate}
 use Rattle.enc_tables.specs.declared.transform.TheConstants.{ZIGZAG4}
 use Rattle.enc_tables.specs.Steps.{steps}
-use Rattle.spec_residual.specs.Blocks.{AllWithin, Within, item}
+use Rattle.spec_residual.specs.Blocks.{AllWithin, item}
 use Rattle.spec_residual.specs.declared.BlockKind.TheVariants.{LumaDc}
 use Rattle.spec_residual.specs.Levels.{IsMade}
 use Rattle.intra_coder.proofs.luma16.unscanned.Given as goal

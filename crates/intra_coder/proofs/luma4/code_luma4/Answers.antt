@@ -3,7 +3,7 @@ use Rattle.picture_planes.specs.Samples.{samples_of}
 use Rattle.std.proofs.lemmas.Grind.{common_steps}
 use Rattle.spec_built.specs.InOrder.{coded_in_order, levels_in_order}
 use Rattle.spec_built.specs.Luma.{build4, choose4}
-use Rattle.intra_coder.proofs.InOrderLaws.{piece_written, piece_long, no_levels, no_samples, next_piece, next_samples}
+use Rattle.intra_coder.proofs.InOrderLaws.{piece_long, no_levels, no_samples, next_piece, next_samples}
 use Rattle.intra_coder.proofs.LumaLaws.{luma4_levels_are, luma4_is_built}
 use Rattle.intra_coder.proofs.luma4.code_luma4.Goals as goal
 

@@ -1,4 +1,4 @@
-use Rattle.std.proofs.Common.{◌≡◌, ◌-◌, ◌+◌, ℕ, arith, ◌∙◌, sym}
+use Rattle.std.proofs.Common.{◌≡◌, ◌-◌, ◌+◌, arith}
 use Rattle.picture_planes.specs.Samples.{samples_of}
 use Rattle.spec_intra.specs.Near.{plane_sample}
 use Rattle.intra_coder.proofs.NearLaws.{above_is, there_is_none}

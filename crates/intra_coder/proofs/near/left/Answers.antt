@@ -1,4 +1,4 @@
-use Rattle.std.proofs.Common.{◌≡◌, ◌≤◌, ◌<◌, List, get_or, ap, ◌-◌, ◌+◌, ℕ, arith, ◌∙◌, sym}
+use Rattle.std.proofs.Common.{◌≤◌, ◌<◌, List, get_or, ap, ◌-◌, ◌+◌, ℕ, arith, ◌∙◌}
 use Rattle.std.proofs.lemmas.List.{length-set}
 use Rattle.picture_planes.specs.Samples.{samples_of}
 use Rattle.spec_intra.specs.Near.{plane_sample}

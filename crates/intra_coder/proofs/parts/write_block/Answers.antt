@@ -1,4 +1,4 @@
-use Rattle.std.proofs.Common.{arith, ◌∙◌, ℕ, List, ◌-◌, ◌+◌, ◌*◌, ◌≡◌, ◌≤◌, take, ap, refl}
+use Rattle.std.proofs.Common.{arith, ◌-◌, ◌+◌, ◌*◌, ◌≡◌, ◌≤◌, refl}
 use Rattle.picture_planes.specs.Samples.{samples_of}
 use Rattle.picture_planes.proofs.SampleLaws.{before_end}
 use Rattle.intra_coder.proofs.PartLaws.{written_none, write_next}

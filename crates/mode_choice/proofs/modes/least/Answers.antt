@@ -15,9 +15,9 @@ loop-mode-init g c = record {
 small_more : (p : ℕ → Bool) (n before after bound : ℕ) → after ≤ before → (p n ≡ true → after ≤ bound) → ((m : ℕ) → m < n → p m ≡ true → before ≤ bound)
     → (m : ℕ) → m < n + 1 → p m ≡ true → after ≤ bound
 small_more p n before after bound most here done m h t = elim (cases_lt m n) [
-    | inl l ↦ (let k = done m l t in omega arith)
-    | inr g ↦ (let e : m ≡ n = omega arith in here (ap p (sym e) ∙ t))
-  ]
+  | inl l ↦ (let k = done m l t in omega arith)
+  | inr g ↦ (let e : m ≡ n = omega arith in here (ap p (sym e) ∙ t))
+]
 
 pub loop-mode-preserved : goal.loop-mode-preserved
 loop-mode-preserved g c =
@@ -26,7 +26,7 @@ loop-mode-preserved g c =
     let n = c.loop-mode.mode in
     record {
       value = c.tried-best.ensures.value
-        ∙ ap (λ (b : ModeCost). cond (p n) (lesser cost_of_mode b (with_cost f n)) b) c.loop-mode.invariant.value
-        ∙ sym (best_more n p f);
+          ∙ ap (λ (b : ModeCost). cond (p n) (lesser cost_of_mode b (with_cost f n)) b) c.loop-mode.invariant.value
+          ∙ sym (best_more n p f);
       small = small_more p n c.loop-mode.best.cost c.tried-best.result.cost (g.C.Costs.bound c.args.costs.now) c.tried-best.ensures.most c.tried-best.ensures.small c.loop-mode.invariant.small;
     }

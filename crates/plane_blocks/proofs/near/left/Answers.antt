@@ -1,4 +1,4 @@
-use Rattle.std.proofs.Common.{◌≡◌, ◌≤◌, ◌<◌, List, get_or, ap, ◌-◌, ◌+◌, ℕ, arith, ◌∙◌, sym}
+use Rattle.std.proofs.Common.{◌≤◌, ◌<◌, List, get_or, ap, ◌-◌, ◌+◌, ℕ, arith, ◌∙◌}
 use Rattle.std.proofs.lemmas.List.{length-set}
 use Rattle.picture_planes.specs.Samples.{samples_of}
 use Rattle.spec_intra.specs.Near.{plane_sample}
@@ -14,8 +14,8 @@ loop-k-preserved g c =
     record {
       long = simp length-set c.loop-k.invariant.long;
       done = sample_next f c.loop-k.line c.loop-k.k _ (omega (arith, c.loop-k.invariant.long, c.loop-k-test.true))
-        (ap (λ (l : List ℕ). get_or l (c.args.x - 1) 0) c.row-row.ensures.value ∙ sample_of_row c.args.plane.now (c.args.x - 1) (c.args.y + c.loop-k.k) (omega (arith, c.loop-k-test.true)) (omega arith))
-        c.loop-k.invariant.done;
+          (ap (λ (l : List ℕ). get_or l (c.args.x - 1) 0) c.row-row.ensures.value ∙ sample_of_row c.args.plane.now (c.args.x - 1) (c.args.y + c.loop-k.k) (omega (arith, c.loop-k-test.true)) (omega arith))
+          c.loop-k.invariant.done;
     }
 
 pub returns-after-loop-k : goal.returns-after-loop-k

@@ -1,4 +1,4 @@
--- Lines and edges that the filter leaves as they are.
+-- Lines, parts and steps that leave what they are given as it is.
 use Rattle.std.proofs.Common.{◌≡◌, ℕ, zero, suc, ◌+◌, ◌*◌, ◌&&◌, Bool, true, false, List, refl, ap, ◌∙◌, sym, nat_lt, ◌<◌, ◌≤◌, cond, lt-ltb, le-ltb}
 use Rattle.std.proofs.lemmas.List.{set-get_or}
 use Rattle.enc_tables.specs.Steps.{steps}

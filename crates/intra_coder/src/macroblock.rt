@@ -1,0 +1,219 @@
+// Whole intra macroblocks and their records.
+ghost use Rattle.std.specs.Prelude.{◌≡◌, ◌≤◌, ◌<◌, ◌+◌, ◌*◌, ◌++◌, ◌∷◌, ℕ, length, replicate, slice_index, slice_range};
+ghost use Rattle.intra_coder.specs.Reach.{Reachable, Stands};
+ghost use Rattle.picture_planes.specs.Pictures.{SameShapes, planes_of};
+ghost use Rattle.spec_built.specs.Chroma.{chroma_ac, chroma_built, chroma_dc};
+ghost use Rattle.spec_built.specs.Records.{bit_if, chroma_pattern, intra16_record, intra4_record, intra8_record, intra_built, intra_record, luma_pattern};
+ghost use Rattle.spec_contexts.specs.Increments.{some_level};
+
+use crate::chroma::code_chroma;
+use crate::luma4::code_luma4;
+use crate::luma8::code_luma8;
+use crate::luma16::code_luma16;
+use enc_tables::{MbKind, MbRecord, Motion, Vector};
+use picture_planes::Picture;
+use spec_built::Site;
+
+#[inline(always)]
+fn some_level(levels: &[i16]) -> bool
+    ensures { result ≡ some_level levels.now }
+{
+    levels.iter().any(|level| *level != 0)
+}
+
+#[inline(always)]
+fn bit_if(is: bool, bit: u8) -> u8
+    ensures { result ≡ bit_if is bit }
+{
+    if is { bit } else { 0 }
+}
+
+// A bit for each 8x8 block that has a level.
+#[inline(always)]
+#[tactic(auto, unfolding(spec_built::specs::Records::luma_pattern))]
+fn luma_pattern(luma: &[i16; 256]) -> u8
+    ensures { result ≡ luma_pattern luma.now }
+{
+    let first = bit_if(some_level(&luma[0..64]), 1);
+    let second = bit_if(some_level(&luma[64..128]), 2);
+    let third = bit_if(some_level(&luma[128..192]), 4);
+    let fourth = bit_if(some_level(&luma[192..256]), 8);
+    first + second + third + fourth
+}
+
+#[inline(always)]
+#[tactic(auto, unfolding(spec_built::specs::Records::chroma_pattern))]
+fn chroma_pattern(dc: &[i16; 8], ac: &[i16; 120]) -> u8
+    ensures { result ≡ chroma_pattern dc.now ac.now }
+{
+    if some_level(ac) {
+        2
+    } else {
+        bit_if(some_level(dc), 1)
+    }
+}
+
+#[inline(always)]
+fn both_dc(cb: &[i16; 4], cr: &[i16; 4]) -> [i16; 8]
+    ensures { result ≡ cb.now ++ cr.now }
+{
+    let mut both = [0i16; 8];
+    both[..4].copy_from_slice(cb);
+    both[4..].copy_from_slice(cr);
+    both
+}
+
+#[inline(always)]
+fn both_ac(cb: &[i16; 60], cr: &[i16; 60]) -> [i16; 120]
+    ensures { result ≡ cb.now ++ cr.now }
+{
+    let mut both = [0i16; 120];
+    both[..60].copy_from_slice(cb);
+    both[60..].copy_from_slice(cr);
+    both
+}
+
+// What the syntax says of an intra macroblock's luma samples.
+#[derive(Clone, Copy)]
+struct Luma {
+    kind: MbKind,
+    transform8: bool,
+    modes: [u8; 16],
+    pattern: u8,
+    dc: [i16; 16],
+    levels: [i16; 256],
+}
+
+#[tactic(auto, unfolding(spec_built::specs::Records::intra_record))]
+fn record_of(luma: &Luma, chroma_mode: u8, qp: u8, dc: &[i16; 8], ac: &[i16; 120]) -> MbRecord
+    ensures { result ≡ intra_record luma.now.kind luma.now.transform8 luma.now.modes chroma_mode qp luma.now.pattern luma.now.dc luma.now.levels dc.now ac.now }
+{
+    let nothing = Vector { x: 0, y: 0 };
+    let unused = Motion {
+        refs: [-1, -1],
+        vectors: [nothing; 2],
+    };
+    MbRecord {
+        kind: luma.kind,
+        transform8: luma.transform8,
+        modes: luma.modes,
+        chroma_mode,
+        motion: [unused; 4],
+        mvd: [nothing; 8],
+        luma_cbp: luma.pattern,
+        chroma_cbp: chroma_pattern(dc, ac),
+        qp,
+        luma_dc: luma.dc,
+        luma: luma.levels,
+        chroma_dc: *dc,
+        chroma_ac: *ac,
+    }
+}
+
+#[inline(always)]
+fn first_mode(mode: u8) -> [u8; 16]
+    ensures { result ≡ mode ∷ replicate 15 0 }
+{
+    let mut modes = [0u8; 16];
+    modes[0] = mode;
+    modes
+}
+
+/// Codes an Intra_4x4 macroblock: its record, and the planes as a decoder builds them of it.
+pub fn code_intra4(
+    picture: &mut Picture,
+    source: &Picture,
+    site: &Site,
+    modes: &[u8; 16],
+    chroma_mode: u8,
+) -> MbRecord
+    requires in_range { site.now.qp ≤ 51 }
+    requires stands { Stands site.now picture.old.y }
+    requires alike { SameShapes picture.old source.now }
+    requires modes { (b : ℕ) → b < 16 → slice_index modes.now b < 9 }
+    requires chroma_mode { chroma_mode < 4 }
+    ensures shapes { SameShapes picture.old picture.new }
+    ensures record { result ≡ intra4_record picture.old.y.width site.now modes.now chroma_mode (planes_of source.now) (planes_of picture.old) }
+    ensures planes { planes_of picture.new ≡ intra_built picture.old.y.width site.now result (planes_of picture.old) }
+{
+    let levels = code_luma4(&mut picture.y, &source.y, site, modes);
+    let cb = code_chroma(&mut picture.cb, &source.cb, site, chroma_mode);
+    let cr = code_chroma(&mut picture.cr, &source.cr, site, chroma_mode);
+    let luma = Luma {
+        kind: MbKind::Intra4,
+        transform8: false,
+        modes: *modes,
+        pattern: luma_pattern(&levels),
+        dc: [0; 16],
+        levels,
+    };
+    let dc = both_dc(&cb.dc, &cr.dc);
+    let ac = both_ac(&cb.ac, &cr.ac);
+    record_of(&luma, chroma_mode, site.qp, &dc, &ac)
+}
+
+/// Codes an Intra_8x8 macroblock. Of the modes the first four count; the others stand in the record as they are.
+pub fn code_intra8(
+    picture: &mut Picture,
+    source: &Picture,
+    site: &Site,
+    modes: &[u8; 16],
+    chroma_mode: u8,
+) -> MbRecord
+    requires in_range { site.now.qp ≤ 51 }
+    requires stands { Stands site.now picture.old.y }
+    requires alike { SameShapes picture.old source.now }
+    requires modes { (b : ℕ) → b < 4 → slice_index modes.now b < 9 }
+    requires chroma_mode { chroma_mode < 4 }
+    ensures shapes { SameShapes picture.old picture.new }
+    ensures record { result ≡ intra8_record picture.old.y.width site.now modes.now chroma_mode (planes_of source.now) (planes_of picture.old) }
+    ensures planes { planes_of picture.new ≡ intra_built picture.old.y.width site.now result (planes_of picture.old) }
+{
+    let levels = code_luma8(&mut picture.y, &source.y, site, modes);
+    let cb = code_chroma(&mut picture.cb, &source.cb, site, chroma_mode);
+    let cr = code_chroma(&mut picture.cr, &source.cr, site, chroma_mode);
+    let luma = Luma {
+        kind: MbKind::Intra8,
+        transform8: true,
+        modes: *modes,
+        pattern: luma_pattern(&levels),
+        dc: [0; 16],
+        levels,
+    };
+    let dc = both_dc(&cb.dc, &cr.dc);
+    let ac = both_ac(&cb.ac, &cr.ac);
+    record_of(&luma, chroma_mode, site.qp, &dc, &ac)
+}
+
+/// Codes an Intra_16x16 macroblock.
+pub fn code_intra16(
+    picture: &mut Picture,
+    source: &Picture,
+    site: &Site,
+    mode: u8,
+    chroma_mode: u8,
+) -> MbRecord
+    requires in_range { site.now.qp ≤ 51 }
+    requires stands { Stands site.now picture.old.y }
+    requires alike { SameShapes picture.old source.now }
+    requires mode { mode < 4 }
+    requires chroma_mode { chroma_mode < 4 }
+    ensures shapes { SameShapes picture.old picture.new }
+    ensures record { result ≡ intra16_record picture.old.y.width site.now mode chroma_mode (planes_of source.now) (planes_of picture.old) }
+    ensures planes { planes_of picture.new ≡ intra_built picture.old.y.width site.now result (planes_of picture.old) }
+{
+    let coded = code_luma16(&mut picture.y, &source.y, site, mode);
+    let cb = code_chroma(&mut picture.cb, &source.cb, site, chroma_mode);
+    let cr = code_chroma(&mut picture.cr, &source.cr, site, chroma_mode);
+    let luma = Luma {
+        kind: MbKind::Intra16,
+        transform8: false,
+        modes: first_mode(mode),
+        pattern: bit_if(some_level(&coded.levels), 15),
+        dc: coded.dc,
+        levels: coded.levels,
+    };
+    let dc = both_dc(&cb.dc, &cr.dc);
+    let ac = both_ac(&cb.ac, &cr.ac);
+    record_of(&luma, chroma_mode, site.qp, &dc, &ac)
+}

@@ -1,0 +1,2 @@
+pub mod Codable
+pub mod Strings

@@ -1,0 +1,167 @@
+-- The parts of a macroblock's string, by what their writers test.
+use Rattle.std.proofs.Common.{◌≡◌, ℕ, suc, ◌+◌, ◌/◌, ◌<◌, true, false, ◌==◌, List, [], ◌∷◌, ◌++◌, length, refl, arith}
+use Rattle.std.specs.Prelude.{◌&&◌, pos}
+use Rattle.std.proofs.lemmas.Bool.Decides.{nat_tests}
+use Rattle.std.proofs.lemmas.List.{length-append}
+use Rattle.std.proofs.lemmas.Int.{ints}
+use Rattle.enc_tables.specs.declared.records.MbRecord.{MbRecord}
+use Rattle.enc_tables.specs.Kinds.{is_nxn, is_16x16}
+use Rattle.spec_contexts.specs.Increments.{bit_of, inc_type_i, inc_transform, inc_chroma_mode, inc_luma_cbp, inc_chroma_cbp, inc_qp_delta, inc_coded}
+use Rattle.spec_syntax.specs.declared.Bin.{Bin}
+use Rattle.spec_syntax.specs.Syntax.{at, flag_string}
+use Rattle.spec_syntax.specs.Elements.{IntraType, NxN, Pcm, Whole, chroma_mode_string, luma_pattern_string, inc_of, chroma_pattern_string, qp_delta_string, mode_rem_string, intra_type_string, intra_type_of}
+use Rattle.spec_syntax.specs.Inter.{type_string}
+use Rattle.spec_syntax.specs.Blocks.{block_string}
+use Rattle.spec_macroblock.specs.Near.{Near, has_residual}
+use Rattle.spec_macroblock.specs.Parts.{parts_string}
+use Rattle.spec_macroblock.specs.Modes.{mode_count, mode_string, rem_of_mode}
+use Rattle.spec_macroblock.specs.Strings.{mb_type_string, transform_string, mode_part_string, modes_string, intra_chroma_string, luma_cbp_string, chroma_cbp_string, difference, qp_string, luma_dc_string, luma4_string, luma8_string, luma_string, chroma_dc_part_string, chroma_dc_string, chroma_ac_part_string, chroma_ac_string, macroblock_string}
+use Rattle.spec_macroblock.specs.Records.{IsRecord}
+use Rattle.spec_macroblock.proofs.Heads.{classes}
+
+pub type_is : (near : Near) (mb : MbRecord) (inc : ℕ) → IsRecord near mb → inc ≡ inc_type_i near.left near.above → mb_type_string near mb ≡ type_string near.kind inc mb
+unfolding mb_type_string
+type_is near mb inc h e = rw (h.in_slice, e) refl
+
+pub transform_some : (near : Near) (mb : MbRecord) (inc : ℕ) → (near.t8x8 && is_nxn mb.kind) ≡ true → inc ≡ inc_transform near.left near.above → transform_string near mb ≡ at (399 + inc) mb.transform8 ∷ []
+unfolding transform_string flag_string
+transform_some near mb inc h e = rw (h, e) refl
+
+pub transform_none : (near : Near) (mb : MbRecord) → (near.t8x8 && is_nxn mb.kind) ≡ false → transform_string near mb ≡ []
+unfolding transform_string
+transform_none near mb h = rw h refl
+
+pub chroma_mode_is : (near : Near) (mb : MbRecord) (inc : ℕ) → IsRecord near mb → inc ≡ inc_chroma_mode near.left near.above → intra_chroma_string near mb ≡ chroma_mode_string inc mb.chroma_mode
+unfolding intra_chroma_string
+chroma_mode_is near mb inc h e = rw ((classes near.t8x8 mb.kind mb.transform8 h.kind_fits).intra, e) refl
+
+-- ---- modes
+
+pub mode_same : (p m : ℕ) → m ≡ p → mode_string p m ≡ at 68 true ∷ []
+unfolding mode_string flag_string
+mode_same p m h = let e : (m == p) ≡ true = grind (arith, nat_tests) in rw e refl
+
+pub mode_other : (p m : ℕ) → (m ≡ p → ⊥) → mode_string p m ≡ (at 68 false ∷ []) ++ mode_rem_string (rem_of_mode p m)
+unfolding mode_string flag_string
+mode_other p m h = let e : (m == p) ≡ false = grind (arith, nat_tests) in rw e refl
+
+pub parts_none : (string : ℕ → List Bin) → parts_string string 0 ≡ []
+unfolding parts_string
+parts_none string = refl
+
+pub parts_more : (string : ℕ → List Bin) (n : ℕ) → parts_string string (n + 1) ≡ parts_string string n ++ string n
+unfolding parts_string
+parts_more string n = let e : n + 1 ≡ suc n = omega arith in rw e refl
+
+pub modes_some : (near : Near) (mb : MbRecord) → is_nxn mb.kind ≡ true → modes_string near mb ≡ parts_string (mode_part_string near mb) (mode_count mb)
+unfolding modes_string
+modes_some near mb h = rw h refl
+
+pub modes_none : (near : Near) (mb : MbRecord) → is_nxn mb.kind ≡ false → modes_string near mb ≡ []
+unfolding modes_string
+modes_none near mb h = rw h refl
+
+-- ---- patterns
+
+pub luma_cbp_none : (near : Near) (mb : MbRecord) → is_16x16 mb.kind ≡ true → luma_cbp_string near mb ≡ []
+unfolding luma_cbp_string
+luma_cbp_none near mb h = rw h refl
+
+pub luma_cbp_some : (near : Near) (mb : MbRecord) (a b c d : ℕ) → is_16x16 mb.kind ≡ false → a ≡ inc_luma_cbp mb near.left near.above 0 → b ≡ inc_luma_cbp mb near.left near.above 1
+    → c ≡ inc_luma_cbp mb near.left near.above 2 → d ≡ inc_luma_cbp mb near.left near.above 3 → luma_cbp_string near mb ≡ luma_pattern_string (inc_of (a ∷ b ∷ c ∷ d ∷ [])) mb.luma_cbp
+unfolding luma_cbp_string
+luma_cbp_some near mb a b c d h p q r s = rw (h, p, q, r, s) refl
+
+pub chroma_cbp_none : (near : Near) (mb : MbRecord) → is_16x16 mb.kind ≡ true → chroma_cbp_string near mb ≡ []
+unfolding chroma_cbp_string
+chroma_cbp_none near mb h = rw h refl
+
+pub chroma_cbp_some : (near : Near) (mb : MbRecord) (a b : ℕ) → is_16x16 mb.kind ≡ false → a ≡ inc_chroma_cbp near.left near.above false → b ≡ inc_chroma_cbp near.left near.above true
+    → chroma_cbp_string near mb ≡ chroma_pattern_string a b mb.chroma_cbp
+unfolding chroma_cbp_string
+chroma_cbp_some near mb a b h p q = rw (h, p, q) refl
+
+no_difference : (qp : ℕ) → difference qp qp ≡ pos 0
+no_difference qp = omega (arith, ints)
+
+pub qp_some : (near : Near) (mb : MbRecord) (inc : ℕ) → near.qp ≡ mb.qp → has_residual mb ≡ true → inc ≡ inc_qp_delta near.last_delta → qp_string near mb ≡ qp_delta_string inc (pos 0)
+unfolding qp_string
+qp_some near mb inc q h e = rw (h, e, q, no_difference mb.qp) refl
+
+pub qp_none : (near : Near) (mb : MbRecord) → has_residual mb ≡ false → qp_string near mb ≡ []
+unfolding qp_string
+qp_none near mb h = rw h refl
+
+-- ---- the residual
+
+pub luma_dc_some : (near : Near) (mb : MbRecord) (inc : ℕ) → is_16x16 mb.kind ≡ true → inc ≡ inc_coded mb near.left near.above 0 0 0 → luma_dc_string near mb ≡ block_string 0 inc 15 mb.luma_dc
+unfolding luma_dc_string
+luma_dc_some near mb inc h e = rw (h, e) refl
+
+pub luma_dc_none : (near : Near) (mb : MbRecord) → is_16x16 mb.kind ≡ false → luma_dc_string near mb ≡ []
+unfolding luma_dc_string
+luma_dc_none near mb h = rw h refl
+
+pub luma_by8 : (near : Near) (mb : MbRecord) → mb.transform8 ≡ true → luma_string near mb ≡ parts_string (luma8_string mb) 4
+unfolding luma_string
+luma_by8 near mb h = rw h refl
+
+pub luma_by4 : (near : Near) (mb : MbRecord) → mb.transform8 ≡ false → luma_string near mb ≡ parts_string (luma4_string near mb) 16
+unfolding luma_string
+luma_by4 near mb h = rw h refl
+
+pub chroma_dc_is : (near : Near) (mb : MbRecord) → chroma_dc_string near mb ≡ parts_string (chroma_dc_part_string near mb) 2
+unfolding chroma_dc_string
+chroma_dc_is near mb = refl
+
+pub chroma_ac_is : (near : Near) (mb : MbRecord) → chroma_ac_string near mb ≡ parts_string (chroma_ac_part_string near mb) 8
+unfolding chroma_ac_string
+chroma_ac_is near mb = refl
+
+pub luma4_none : (near : Near) (mb : MbRecord) (b : ℕ) → bit_of mb.luma_cbp (b / 4) ≡ false → luma4_string near mb b ≡ []
+luma4_none near mb b h = rw h refl
+
+pub luma8_none : (mb : MbRecord) (k : ℕ) → bit_of mb.luma_cbp k ≡ false → luma8_string mb k ≡ []
+luma8_none mb k h = rw h refl
+
+pub chroma_dc_none : (near : Near) (mb : MbRecord) (c : ℕ) → mb.chroma_cbp ≡ 0 → chroma_dc_part_string near mb c ≡ []
+chroma_dc_none near mb c h = rw h refl
+
+pub chroma_ac_none : (near : Near) (mb : MbRecord) (j : ℕ) → (mb.chroma_cbp ≡ 2 → ⊥) → chroma_ac_part_string near mb j ≡ []
+chroma_ac_none near mb j h = let e : (mb.chroma_cbp == 2) ≡ false = grind (arith, nat_tests) in rw e refl
+
+-- ---- all of it
+
+-- the type has a bin at least
+first_bin : (inc : ℕ) (t : IntraType) → 0 < length (intra_type_string inc t)
+unfolding intra_type_string
+first_bin inc NxN = omega arith
+first_bin inc Pcm = omega arith
+first_bin inc (Whole mode chroma ac) = omega arith
+
+longer : (xs ys : List Bin) → 0 < length xs → 0 < length (xs ++ ys)
+longer xs ys h = omega (arith, h, length-append xs ys)
+
+type_bin : (near : Near) (mb : MbRecord) → IsRecord near mb → 0 < length (mb_type_string near mb)
+unfolding mb_type_string
+type_bin near mb h = rw h.in_slice (first_bin (inc_type_i near.left near.above) (intra_type_of mb))
+
+pub some_bin : (near : Near) (mb : MbRecord) → IsRecord near mb → 0 < length (macroblock_string near mb)
+unfolding macroblock_string
+some_bin near mb h =
+    let a = longer (mb_type_string near mb) (transform_string near mb) (type_bin near mb h) in
+    let b = longer _ (modes_string near mb) a in
+    let c = longer _ (intra_chroma_string near mb) b in
+    let d = longer _ (luma_cbp_string near mb) c in
+    let e = longer _ (chroma_cbp_string near mb) d in
+    let f = longer _ (qp_string near mb) e in
+    let g = longer _ (luma_dc_string near mb) f in
+    let i = longer _ (luma_string near mb) g in
+    let j = longer _ (chroma_dc_string near mb) i in
+    longer _ (chroma_ac_string near mb) j
+
+pub macroblock_is : (near : Near) (mb : MbRecord) → macroblock_string near mb ≡
+    ((((((((((mb_type_string near mb ++ transform_string near mb) ++ modes_string near mb) ++ intra_chroma_string near mb) ++ luma_cbp_string near mb) ++ chroma_cbp_string near mb)
+    ++ qp_string near mb) ++ luma_dc_string near mb) ++ luma_string near mb) ++ chroma_dc_string near mb) ++ chroma_ac_string near mb)
+unfolding macroblock_string
+macroblock_is near mb = refl
