@@ -1,8 +1,8 @@
 -- What is built are samples of eight bits.
-use Rattle.std.proofs.Common.{◌+◌, ◌*◌, ℕ, zero, suc, ℤ, List, [], ◌∷◌}
+use Rattle.std.proofs.Common.{◌≡◌, ◌≤◌, ◌<◌, ◌+◌, ◌-◌, ◌*◌, ◌/◌, ◌%◌, ◌++◌, ◌&&◌, not, ℕ, zero, suc, ℤ, pos, negsuc, Bool, true, false, cond, List, [], ◌∷◌, length, take, drop, get_or, refl, sym, subst, arith, ◌⊎◌, inl, inr}
 use Rattle.std.proofs.lemmas.Bool.{cases_lt}
 use Rattle.enc_tables.specs.declared.records.MbRecord.{MbRecord}
-use Rattle.enc_tables.specs.Kinds.{is_nxn, is_16x16}
+use Rattle.enc_tables.specs.Kinds.{is_16x16, is_intra, is_pcm}
 use Rattle.enc_tables.specs.Steps.{steps}
 use Rattle.spec_film.specs.Films.{Planes}
 use Rattle.std.specs.Prelude.{slice_index, slice_range}
@@ -14,8 +14,7 @@ use Rattle.spec_built.specs.Residuals.{constructed, built4, built8, built_with_d
 use Rattle.spec_built.specs.InOrder.{built_in_order, coded_in_order}
 use Rattle.spec_built.specs.Luma.{build4, build8, build16, prediction16, unscanned, luma4_built, luma8_built, luma16_built}
 use Rattle.spec_built.specs.Chroma.{build_chroma, prediction_chroma, chroma_qp, chroma_built}
-use Rattle.spec_built.specs.Macroblocks.{luma_built, component_built, macroblock_built}
-use Rattle.spec_built.specs.Slices.{built_from, slice_built}
+use Rattle.spec_built.specs.Records.{luma_built, intra_built, site_of, macroblock_built, slice_built}
 use Rattle.spec_records.specs.Coded.{AreBytes, PlanesFit}
 use Rattle.spec_records.proofs.Bytes.{mapped_at, append_bytes, take_bytes, drop_bytes, none_bytes, cond_bytes, clip1_small}
 
@@ -108,27 +107,30 @@ luma_bytes : (wide : ℕ) (site : Site) (r : MbRecord) (plane : List ℕ) → Ar
 unfolding luma_built
 luma_bytes wide site r plane h =
     cond_bytes (is_16x16 r.kind) _ _ (luma16_bytes wide site (slice_index r.modes 0) r.luma_dc r.luma plane h)
-    (cond_bytes (is_nxn r.kind) _ _ (cond_bytes r.transform8 _ _ (luma8_bytes wide site r.modes r.luma plane h) (luma4_bytes wide site r.modes r.luma plane h)) h)
+    (cond_bytes r.transform8 _ _ (luma8_bytes wide site r.modes r.luma plane h) (luma4_bytes wide site r.modes r.luma plane h))
 
-component_bytes : (c wide : ℕ) (site : Site) (r : MbRecord) (plane : List ℕ) → AreBytes plane → AreBytes (component_built c wide site r plane)
-unfolding component_built
-component_bytes c wide site r plane h =
-    let built = chroma_bytes wide site r.chroma_mode (slice_range r.chroma_dc (4 * c) (4 * c + 4)) (slice_range r.chroma_ac (60 * c) (60 * c + 60)) plane h in
-    cond_bytes (is_16x16 r.kind) _ _ built (cond_bytes (is_nxn r.kind) _ _ built h)
-
-pub macroblock_bytes : (across : ℕ) (site : Site) (r : MbRecord) (p : Planes) → PlanesFit p → PlanesFit (macroblock_built across site r p)
-unfolding macroblock_built
-macroblock_bytes across site r p h = record {
-  luma = luma_bytes _ site r p.luma h.luma;
-  cb = component_bytes 0 _ site r p.cb h.cb;
-  cr = component_bytes 1 _ site r p.cr h.cr;
+intra_bytes : (wide : ℕ) (site : Site) (r : MbRecord) (p : Planes) → PlanesFit p → PlanesFit (intra_built wide site r p)
+unfolding intra_built
+intra_bytes wide site r p h = record {
+  luma = luma_bytes wide site r p.luma h.luma;
+  cb = chroma_bytes (wide / 2) site r.chroma_mode (take 4 r.chroma_dc) (take 60 r.chroma_ac) p.cb h.cb;
+  cr = chroma_bytes (wide / 2) site r.chroma_mode (drop 4 r.chroma_dc) (drop 60 r.chroma_ac) p.cr h.cr;
 }
 
-from_bytes : (across first n : ℕ) (records : List MbRecord) (p : Planes) → PlanesFit p → PlanesFit (built_from across first n records p)
-unfolding built_from
-from_bytes across first n [] p h = h
-from_bytes across first n (r ∷ rs) p h = from_bytes across first (suc n) rs _ (macroblock_bytes across _ r p h)
+either_fits : (b : Bool) (p q : Planes) → PlanesFit p → PlanesFit q → PlanesFit (cond b p q)
+either_fits true p q h g = h
+either_fits false p q h g = g
 
-pub slice_bytes : (across first : ℕ) (records : List MbRecord) (p : Planes) → PlanesFit p → PlanesFit (slice_built across first records p)
+pub macroblock_bytes : (width first address : ℕ) (r : MbRecord) (p : Planes) → PlanesFit p → PlanesFit (macroblock_built width first address r p)
+unfolding macroblock_built
+macroblock_bytes width first address r p h =
+    either_fits (is_intra r.kind && not (is_pcm r.kind)) _ _ (intra_bytes (16 * width) (site_of width first address r.qp) r p h) h
+
+steps_fit : (f : ℕ → Planes → Planes) (n : ℕ) (p : Planes) → ((k : ℕ) (q : Planes) → PlanesFit q → PlanesFit (f k q)) → PlanesFit p → PlanesFit (steps f n p)
+unfolding steps
+steps_fit f zero p each h = h
+steps_fit f (suc n) p each h = each n _ (steps_fit f n p each h)
+
+pub slice_bytes : (width first : ℕ) (records : List MbRecord) (p : Planes) → PlanesFit p → PlanesFit (slice_built width first records p)
 unfolding slice_built
-slice_bytes across first records p h = from_bytes across first 0 records p h
+slice_bytes width first records p h = steps_fit _ (length records) p (λ k q fits. macroblock_bytes width first (first + k) _ q fits) h
