@@ -1,0 +1,93 @@
+-- The records of a coded slice are records of the syntax.
+use Rattle.std.proofs.Common.{◌≡◌, ◌≤◌, ◌<◌, ◌+◌, ◌-◌, ◌*◌, ◌/◌, ◌%◌, ◌++◌, ℕ, zero, suc, Bool, List, [], ◌∷◌, length, get_or, refl, sym, ap, ◌∙◌, arith, length-append, ◌⊎◌, inl, inr}
+use Rattle.std.specs.List.{All}
+use Rattle.std.proofs.lemmas.Bool.{cases_lt}
+use Rattle.std.proofs.lemmas.List.{get_or_past}
+use Rattle.std.proofs.lemmas.List.Elements.{All-get_or}
+use Rattle.enc_tables.specs.declared.records.MbKind.{MbKind}
+use Rattle.enc_tables.specs.declared.records.MbPlan.{MbPlan}
+use Rattle.enc_tables.specs.declared.records.MbRecord.{MbRecord}
+use Rattle.enc_tables.specs.declared.records.SliceKind.TheVariants.{I}
+use Rattle.spec_bits.specs.Bits.{IsByte}
+use Rattle.spec_bits.specs.declared.heads.SliceHead.{SliceHead}
+use Rattle.spec_film.specs.declared.FilmHead.{FilmHead}
+use Rattle.spec_film.specs.Films.{Planes}
+use Rattle.spec_stream.specs.Pictures.{IsPicture}
+use Rattle.spec_macroblock.specs.Near.{Near, last_qp, near_in}
+use Rattle.spec_macroblock.specs.Records.{IsRecord}
+use Rattle.spec_macroblock.proofs.Following.{qp_follows}
+use Rattle.spec_slice_layer.specs.Layer.{Format, Slice, near_of, AreRecords, NeighboursHaveModes}
+use Rattle.spec_slice_layer.proofs.Growing.{one_more, neighbours}
+use Rattle.spec_built.specs.declared.Site.{Site}
+use Rattle.spec_built.specs.Records.{site_of, slice_built}
+use Rattle.spec_built.specs.Slices.{coded_record, coded_slice}
+use Rattle.spec_records.specs.Coded.{AreBytes, PlanesFit, ModesFit, IsCodedKind, Stands}
+use Rattle.spec_records.proofs.Bytes.{zeros_bytes}
+use Rattle.spec_records.proofs.Built.{slice_bytes}
+use Rattle.spec_records.proofs.Whole.{records_are_coded, record_qp}
+use Rattle.spec_encoding.specs.Frames.{blank_planes, slices_built}
+
+-- ---- samples
+
+bytes_at : (xs : List ℕ) → All IsByte xs → (k : ℕ) → (k < length xs) ⊎ (length xs ≤ k) → get_or xs k 0 ≤ 255
+bytes_at xs h k (inl l) = let e : get_or xs k 0 < 256 = All-get_or IsByte xs k 0 l h in omega arith
+bytes_at xs h k (inr g) = let e : get_or xs k 0 ≡ 0 = get_or_past xs k 0 g in omega arith
+
+are_bytes : (xs : List ℕ) → All IsByte xs → AreBytes xs
+are_bytes xs h = record { at = λ k. bytes_at xs h k (cases_lt k (length xs)) }
+
+pub picture_fits : (h : FilmHead) (p : Planes) → IsPicture h p → PlanesFit p
+picture_fits h p is = record { luma = are_bytes p.luma is.luma_bytes; cb = are_bytes p.cb is.cb_bytes; cr = are_bytes p.cr is.cr_bytes }
+
+pub blank_fits : (across down : ℕ) → PlanesFit (blank_planes across down)
+unfolding blank_planes
+blank_fits across down = record { luma = zeros_bytes _; cb = zeros_bytes _; cr = zeros_bytes _ }
+
+pub built_fits : (across : ℕ) (slices : List Slice) (p : Planes) → PlanesFit p → PlanesFit (slices_built across slices p)
+unfolding slices_built
+built_fits across [] p h = h
+built_fits across (s ∷ ss) p h = built_fits across ss _ (slice_bytes across s.head.first_mb s.records p h)
+
+-- ---- records
+
+pub length-coded : (width first qp : ℕ) (kinds : ℕ → MbKind) (plans : ℕ → MbPlan) (source p : Planes) (n : ℕ) → length (coded_slice width first qp kinds plans source p n) ≡ n
+unfolding coded_slice
+length-coded width first qp kinds plans source p zero = refl
+length-coded width first qp kinds plans source p (suc n) =
+    let e = length-coded width first qp kinds plans source p n in
+    length-append (coded_slice width first qp kinds plans source p n) _ ∙ ap (λ (m : ℕ). m + 1) e ∙ omega arith
+
+-- what is settled before a slice is coded
+pub record Settles (f : Format) (h : SliceHead) (kinds : ℕ → MbKind) (plans : ℕ → MbPlan) (source p : Planes) : Type 0 where
+  pub kind : h.kind ≡ I
+  pub qp : h.qp ≤ 51
+  pub kinds_fit : (a : ℕ) → IsCodedKind f.t8x8 (kinds a)
+  pub plans_fit : (a : ℕ) → ModesFit (plans a)
+  pub source_fits : PlanesFit source
+  pub built : PlanesFit p
+
+stands : (f : Format) (h : SliceHead) (before : List MbRecord) (site : Site) → h.kind ≡ I → h.qp ≤ 51 → last_qp h.qp before ≡ h.qp → site.qp ≡ h.qp → AreRecords f h [] before → Stands (near_of f h before) site
+unfolding near_in
+stands f h before site kind small last same are =
+    let modes : NeighboursHaveModes (near_of f h before) = neighbours f h before are in
+    record { in_slice = kind; left_modes = modes.left; above_modes = modes.above; same_qp = last ∙ sym same; qp_fits = omega arith }
+
+one_coded : (f : Format) (h : SliceHead) (before : List MbRecord) (site : Site) (kind : MbKind) (plan : MbPlan) (source p : Planes) → Stands (near_of f h before) site → IsCodedKind f.t8x8 kind → ModesFit plan → PlanesFit source → PlanesFit p
+    → IsRecord (near_of f h before) (coded_record f.across site kind plan source p)
+unfolding near_in
+one_coded f h before site kind plan source p s k m g b = records_are_coded (near_of f h before) f.across site kind plan source p s k m g b
+
+pub are_coded : (f : Format) (h : SliceHead) (kinds : ℕ → MbKind) (plans : ℕ → MbPlan) (source p : Planes) (n : ℕ) → Settles f h kinds plans source p
+    → AreRecords f h [] (coded_slice f.across h.first_mb h.qp kinds plans source p n) × (last_qp h.qp (coded_slice f.across h.first_mb h.qp kinds plans source p n) ≡ h.qp)
+unfolding coded_slice last_qp
+are_coded f h kinds plans source p zero s = (tt, refl)
+are_coded f h kinds plans source p (suc n) s =
+    let before : List MbRecord = coded_slice f.across h.first_mb h.qp kinds plans source p n in
+    let a : ℕ = h.first_mb + n in
+    let site : Site = site_of f.across h.first_mb a h.qp in
+    let now : Planes = slice_built f.across h.first_mb before p in
+    let mb : MbRecord = coded_record f.across site (kinds a) (plans a) source now in
+    let done : AreRecords f h [] before × (last_qp h.qp before ≡ h.qp) = are_coded f h kinds plans source p n s in
+    let fits : PlanesFit now = slice_bytes f.across h.first_mb before p s.built in
+    (one_more f h before mb done.0 (one_coded f h before site (kinds a) (plans a) source now (stands f h before site s.kind s.qp done.1 refl done.0) (s.kinds_fit a) (s.plans_fit a) s.source_fits fits),
+    qp_follows h.qp before mb ∙ record_qp f.across site (kinds a) (plans a) source now)

@@ -1,0 +1,5 @@
+pub mod Numbers
+pub mod Coded
+pub mod Ends
+pub mod Covering
+pub mod Whole
