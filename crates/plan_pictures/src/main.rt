@@ -116,7 +116,14 @@ fn print_plan(rt: &HostRuntime, plan: &MbPlan, way: Way) -> Result<(), Fault>
     Ok(())
 }
 
-fn print_row(rt: &HostRuntime, source: &Picture, first_rows: &[u32], row: u32, way: Way, out: &mut RowPlan) -> Result<(), Fault>
+fn print_row(
+    rt: &HostRuntime,
+    source: &Picture,
+    first_rows: &[u32],
+    row: u32,
+    way: Way,
+    out: &mut RowPlan,
+) -> Result<(), Fault>
     requires { way.qp ≤ 51 }
 {
     let first_row = slice_start(first_rows, row);

@@ -88,6 +88,7 @@ are_coded f h kinds plans source p (suc n) s =
     let now : Planes = slice_built f.across h.first_mb before p in
     let mb : MbRecord = coded_record f.across site (kinds a) (plans a) source now in
     let done : AreRecords f h [] before × (last_qp h.qp before ≡ h.qp) = are_coded f h kinds plans source p n s in
-    let fits : PlanesFit now = slice_bytes f.across h.first_mb before p s.built in
-    (one_more f h before mb done.0 (one_coded f h before site (kinds a) (plans a) source now (stands f h before site s.kind s.qp done.1 refl done.0) (s.kinds_fit a) (s.plans_fit a) s.source_fits fits),
-    qp_follows h.qp before mb ∙ record_qp f.across site (kinds a) (plans a) source now)
+    let fits : PlanesFit now = slice_bytes f.across h.first_mb before p s.built in (
+      one_more f h before mb done.0 (one_coded f h before site (kinds a) (plans a) source now (stands f h before site s.kind s.qp done.1 refl done.0) (s.kinds_fit a) (s.plans_fit a) s.source_fits fits),
+      qp_follows h.qp before mb ∙ record_qp f.across site (kinds a) (plans a) source now,
+    )

@@ -72,7 +72,7 @@ unfolding all_coded coded_with_payloads reconstruction reconstructed
 shown_is h s number [] = refl
 shown_is h s number (p ∷ ps) =
     ap₂ (λ (slices : List Slice) (rest : List Planes).
-      cropped (across_of (sequence_of h)) (sequence_of h).width (sequence_of h).height (picture_of (across_of (sequence_of h)) (down_of (sequence_of h)) slices) ∷ rest)
+    cropped (across_of (sequence_of h)) (sequence_of h).width (sequence_of h).height (picture_of (across_of (sequence_of h)) (down_of (sequence_of h)) slices) ∷ rest)
     (slices_are (format_of (sequence_of h) s.t8x8) (coded_picture (settled h s) number p)) (shown_is h s (number + 1) ps)
 
 pub encodings_decode : (h : FilmHead) (s : Settings) (pictures : List Planes) → AllowedHead h → s.qp ≤ 51 → 1 ≤ s.slices → s.slices ≤ (h.height + 15) / 16 → All (IsPicture h) pictures

@@ -31,8 +31,8 @@ edge_left : (rule : ℕ → EdgeRule) (n start step across : ℕ) (xs : List ℕ
 unfolding edge_filtered part_filtered
 edge_left rule n start step across xs none =
     steps_left (λ g. steps (λ j. line_filtered (rule g) (start + n * g * across + j * across) step) n) 4 xs (λ g ys.
-      steps_left (λ j. line_filtered (rule g) (start + n * g * across + j * across) step) n ys (λ j zs.
-        sym (line_left (rule g) zs (start + n * g * across + j * across) step (line_at zs (start + n * g * across + j * across) step) refl (not_near (rule g) _ (none g)))))
+    steps_left (λ j. line_filtered (rule g) (start + n * g * across + j * across) step) n ys (λ j zs.
+    sym (line_left (rule g) zs (start + n * g * across + j * across) step (line_at zs (start + n * g * across + j * across) step) refl (not_near (rule g) _ (none g)))))
 
 no_threshold : (chroma : Bool) (index bs : ℕ) → index ≡ 0 → (rule_at chroma index bs).alpha ≡ 0
 unfolding rule_at
@@ -77,8 +77,9 @@ pcm_indices chroma left above mb l a m = record { left = pcm_index chroma left m
 module _ (records : List MbRecord) (all : All (λ r. is_pcm r.kind ≡ true) records) where
   pcm_at : (m : ℕ) → is_pcm (record_at records m).kind ≡ true
   pcm_at m = elim (cases_lt m (length records)) [
-      inl lt ↦ All-get_or (λ r. is_pcm r.kind ≡ true) records m no_record lt all
-    | inr le ↦ ap (λ (r : MbRecord). is_pcm r.kind) (get_or_past records m no_record le) ]
+    | inl lt ↦ All-get_or (λ r. is_pcm r.kind ≡ true) records m no_record lt all
+    | inr le ↦ ap (λ (r : MbRecord). is_pcm r.kind) (get_or_past records m no_record le)
+  ]
 
   module _ (pictures0 pictures1 : List ℤ) (width : ℕ) where
     none_luma : (m : ℕ) → NoIndices (edges_of pictures0 pictures1 records width m).luma
@@ -103,10 +104,10 @@ planes_same a b c p x y z =
     ap (λ (l : List ℕ). f l b c) x ∙ ap (λ (l : List ℕ). f p.luma l c) y ∙ ap (λ (l : List ℕ). f p.luma p.cb l) z
 
 pub pcm_stays : (pictures0 pictures1 : List ℤ) (records : List MbRecord) (width : ℕ) (planes : Planes) → All (λ r. is_pcm r.kind ≡ true) records
-  → picture_filtered pictures0 pictures1 records width planes ≡ planes
+    → picture_filtered pictures0 pictures1 records width planes ≡ planes
 unfolding picture_filtered
 pcm_stays pictures0 pictures1 records width planes all =
     planes_same _ _ _ planes
-      (luma_stays records all pictures0 pictures1 (width / 16) (rows_of width) (length records) planes.luma)
-      (chroma_stays records all pictures0 pictures1 (width / 16) (rows_of (width / 2)) (length records) planes.cb)
-      (chroma_stays records all pictures0 pictures1 (width / 16) (rows_of (width / 2)) (length records) planes.cr)
+    (luma_stays records all pictures0 pictures1 (width / 16) (rows_of width) (length records) planes.luma)
+    (chroma_stays records all pictures0 pictures1 (width / 16) (rows_of (width / 2)) (length records) planes.cb)
+    (chroma_stays records all pictures0 pictures1 (width / 16) (rows_of (width / 2)) (length records) planes.cr)

@@ -8,22 +8,22 @@ use Rattle.spec_filter.specs.Lines.{filtered}
 -- the line of eight samples that begins at a place and goes on by a step
 unfoldable pub line_at : List ℕ → ℕ → ℕ → SampleLine
 line_at xs start step = record {
-    p3 = slice_index xs start;
-    p2 = slice_index xs (start + step);
-    p1 = slice_index xs (start + 2 * step);
-    p0 = slice_index xs (start + 3 * step);
-    q0 = slice_index xs (start + 4 * step);
-    q1 = slice_index xs (start + 5 * step);
-    q2 = slice_index xs (start + 6 * step);
-    q3 = slice_index xs (start + 7 * step)
-  }
+  p3 = slice_index xs start;
+  p2 = slice_index xs (start + step);
+  p1 = slice_index xs (start + 2 * step);
+  p0 = slice_index xs (start + 3 * step);
+  q0 = slice_index xs (start + 4 * step);
+  q1 = slice_index xs (start + 5 * step);
+  q2 = slice_index xs (start + 6 * step);
+  q3 = slice_index xs (start + 7 * step);
+}
 
 -- with a line's six inner samples in that place
 unfoldable pub with_line : List ℕ → ℕ → ℕ → SampleLine → List ℕ
 with_line xs start step l =
     slice_set (slice_set (slice_set (slice_set (slice_set (slice_set xs
-        (start + step) l.p2) (start + 2 * step) l.p1) (start + 3 * step) l.p0)
-        (start + 4 * step) l.q0) (start + 5 * step) l.q1) (start + 6 * step) l.q2
+    (start + step) l.p2) (start + 2 * step) l.p1) (start + 3 * step) l.p0)
+    (start + 4 * step) l.q0) (start + 5 * step) l.q1) (start + 6 * step) l.q2
 
 unfoldable pub line_filtered : EdgeRule → ℕ → ℕ → List ℕ → List ℕ
 line_filtered r start step xs = with_line xs start step (filtered r (line_at xs start step))

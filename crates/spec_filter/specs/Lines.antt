@@ -38,7 +38,7 @@ weak r l =
       p0 = clip1 (pos l.p0 +ℤ step);
       q0 = clip1 (pos l.q0 -ℤ step);
       p1 = cond (not r.chroma && near_p) (second r.tc0 l.p2 l.p1 l.p0 l.q0) l.p1;
-      q1 = cond (not r.chroma && near_q) (second r.tc0 l.q2 l.q1 l.q0 l.p0) l.q1
+      q1 = cond (not r.chroma && near_q) (second r.tc0 l.q2 l.q1 l.q0 l.p0) l.q1;
     }
 
 -- bS 4 (clause 8.7.2.4)
@@ -57,7 +57,7 @@ strong r l =
       p2 = cond p ((2 * l.p3 + 3 * l.p2 + l.p1 + l.p0 + l.q0 + 4) / 8) l.p2;
       q0 = cond q ((l.q2 + 2 * l.q1 + 2 * l.q0 + 2 * l.p0 + l.p1 + 4) / 8) ((2 * l.q1 + l.q0 + l.p1 + 2) / 4);
       q1 = cond q ((l.q2 + l.q1 + l.q0 + l.p0 + 2) / 4) l.q1;
-      q2 = cond q ((2 * l.q3 + 3 * l.q2 + l.q1 + l.q0 + l.p0 + 4) / 8) l.q2
+      q2 = cond q ((2 * l.q3 + 3 * l.q2 + l.q1 + l.q0 + l.p0 + 4) / 8) l.q2;
     }
 
 -- the line after the filter

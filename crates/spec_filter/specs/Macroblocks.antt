@@ -24,22 +24,22 @@ strengths bs = map (λ i. bs (i / 4) (i % 4)) (range_with_len 0 16)
 
 abbrev pub indices : Bool → MbRecord → MbRecord → MbRecord → EdgeIndices
 indices chroma left above mb = record {
-    left = filter_index chroma left mb;
-    above = filter_index chroma above mb;
-    inner = filter_index chroma mb mb
-  }
+  left = filter_index chroma left mb;
+  above = filter_index chroma above mb;
+  inner = filter_index chroma mb mb;
+}
 
 -- of a macroblock at column x of row y, and the macroblocks at its left and above
 unfoldable pub edges_between : List ℤ → List ℤ → ℕ → ℕ → MbRecord → MbRecord → MbRecord → MbEdges
 edges_between pictures0 pictures1 x y left above mb = record {
-    left = not (x == 0);
-    above = not (y == 0);
-    transform8 = mb.transform8;
-    vertical = strengths (vertical_strength pictures0 pictures1 left mb);
-    horizontal = strengths (horizontal_strength pictures0 pictures1 above mb);
-    luma = indices false left above mb;
-    chroma = indices true left above mb
-  }
+  left = not (x == 0);
+  above = not (y == 0);
+  transform8 = mb.transform8;
+  vertical = strengths (vertical_strength pictures0 pictures1 left mb);
+  horizontal = strengths (horizontal_strength pictures0 pictures1 above mb);
+  luma = indices false left above mb;
+  chroma = indices true left above mb;
+}
 
 -- an edge of the picture isn't filtered, nor is a luma edge inside an 8x8 transform block
 abbrev pub has_luma_edge : Bool → Bool → ℕ → Bool
@@ -52,30 +52,30 @@ has_chroma_edge outer k = outer || not (k == 0)
 unfoldable pub luma_vertical : MbEdges → Layout → ℕ → ℕ → ℕ → List ℕ → List ℕ
 luma_vertical e at x y k xs =
     cond (has_luma_edge e.left e.transform8 k)
-      (edge_filtered (λ g. rule_at false (cond (k == 0) e.luma.left e.luma.inner) (slice_index e.vertical (4 * k + g))) 4
-        (at.origin + 16 * y * at.stride + 16 * x + 4 * k - 4) 1 at.stride xs)
-      xs
+    (edge_filtered (λ g. rule_at false (cond (k == 0) e.luma.left e.luma.inner) (slice_index e.vertical (4 * k + g))) 4
+    (at.origin + 16 * y * at.stride + 16 * x + 4 * k - 4) 1 at.stride xs)
+    xs
 
 unfoldable pub luma_horizontal : MbEdges → Layout → ℕ → ℕ → ℕ → List ℕ → List ℕ
 luma_horizontal e at x y k xs =
     cond (has_luma_edge e.above e.transform8 k)
-      (edge_filtered (λ g. rule_at false (cond (k == 0) e.luma.above e.luma.inner) (slice_index e.horizontal (4 * k + g))) 4
-        (at.origin + (16 * y + 4 * k - 4) * at.stride + 16 * x) at.stride 1 xs)
-      xs
+    (edge_filtered (λ g. rule_at false (cond (k == 0) e.luma.above e.luma.inner) (slice_index e.horizontal (4 * k + g))) 4
+    (at.origin + (16 * y + 4 * k - 4) * at.stride + 16 * x) at.stride 1 xs)
+    xs
 
 unfoldable pub chroma_vertical : MbEdges → Layout → ℕ → ℕ → ℕ → List ℕ → List ℕ
 chroma_vertical e at x y k xs =
     cond (has_chroma_edge e.left k)
-      (edge_filtered (λ g. rule_at true (cond (k == 0) e.chroma.left e.chroma.inner) (slice_index e.vertical (8 * k + g))) 2
-        (at.origin + 8 * y * at.stride + 8 * x + 4 * k - 4) 1 at.stride xs)
-      xs
+    (edge_filtered (λ g. rule_at true (cond (k == 0) e.chroma.left e.chroma.inner) (slice_index e.vertical (8 * k + g))) 2
+    (at.origin + 8 * y * at.stride + 8 * x + 4 * k - 4) 1 at.stride xs)
+    xs
 
 unfoldable pub chroma_horizontal : MbEdges → Layout → ℕ → ℕ → ℕ → List ℕ → List ℕ
 chroma_horizontal e at x y k xs =
     cond (has_chroma_edge e.above k)
-      (edge_filtered (λ g. rule_at true (cond (k == 0) e.chroma.above e.chroma.inner) (slice_index e.horizontal (8 * k + g))) 2
-        (at.origin + (8 * y + 4 * k - 4) * at.stride + 8 * x) at.stride 1 xs)
-      xs
+    (edge_filtered (λ g. rule_at true (cond (k == 0) e.chroma.above e.chroma.inner) (slice_index e.horizontal (8 * k + g))) 2
+    (at.origin + (8 * y + 4 * k - 4) * at.stride + 8 * x) at.stride 1 xs)
+    xs
 
 unfoldable pub luma_macroblock : MbEdges → Layout → ℕ → ℕ → List ℕ → List ℕ
 luma_macroblock e at x y xs = steps (luma_horizontal e at x y) 4 (steps (luma_vertical e at x y) 4 xs)

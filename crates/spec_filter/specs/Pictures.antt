@@ -49,7 +49,7 @@ rows_of width = record { origin = 0; stride = width }
 unfoldable pub picture_filtered : List ℤ → List ℤ → List MbRecord → ℕ → Planes → Planes
 picture_filtered pictures0 pictures1 records width planes =
     let edges : ℕ → MbEdges = edges_of pictures0 pictures1 records (width / 16) in record {
-    luma = luma_filtered edges (width / 16) (rows_of width) (length records) planes.luma;
-    cb = chroma_filtered edges (width / 16) (rows_of (width / 2)) (length records) planes.cb;
-    cr = chroma_filtered edges (width / 16) (rows_of (width / 2)) (length records) planes.cr
-  }
+      luma = luma_filtered edges (width / 16) (rows_of width) (length records) planes.luma;
+      cb = chroma_filtered edges (width / 16) (rows_of (width / 2)) (length records) planes.cb;
+      cr = chroma_filtered edges (width / 16) (rows_of (width / 2)) (length records) planes.cr;
+    }

@@ -80,9 +80,9 @@ tc0_of index bs = cond (nat_lt 0 bs && nat_lt bs 4) (slice_index FILTER_TC0 (3 *
 
 unfoldable pub rule_at : Bool → ℕ → ℕ → EdgeRule
 rule_at chroma index bs = record {
-    chroma = chroma;
-    strength = bs;
-    alpha = slice_index FILTER_ALPHA index;
-    beta = slice_index FILTER_BETA index;
-    tc0 = tc0_of index bs
-  }
+  chroma = chroma;
+  strength = bs;
+  alpha = slice_index FILTER_ALPHA index;
+  beta = slice_index FILTER_BETA index;
+  tc0 = tc0_of index bs;
+}

@@ -11,9 +11,9 @@ square_place k = (if nat_eq k 0 then 4 else (if nat_lt k 5 then k - 1 else k))
 -- the vector tried at turn k of a round: the places of the square lie `step` quarter samples apart
 abbrev pub turned : Vector → ℕ → ℕ → Vector
 turned centre step k = record {
-    x = centre.x +ℤ pos (step * (square_place k % 3)) -ℤ pos step;
-    y = centre.y +ℤ pos (step * (square_place k / 3)) -ℤ pos step
-  }
+  x = centre.x +ℤ pos (step * (square_place k % 3)) -ℤ pos step;
+  y = centre.y +ℤ pos (step * (square_place k / 3)) -ℤ pos step;
+}
 
 -- of the nine vectors of a round this one is the first of least cost
 pub record IsBestOfNine (cost : Vector → ℕ) (centre : Vector) (step : ℕ) (best : Vector) : Type 0 where

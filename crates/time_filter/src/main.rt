@@ -9,11 +9,11 @@ use deblock::deblock_picture;
 use enc_tables::{MbKind, MbRecord, Motion, Vector};
 use picture_planes::{Picture, Plane};
 use std::alloc::{AllocError, Global};
-use std::env;
-use std::io;
 use std::process::ExitCode;
+use std::{env, io};
 
 const WIDTH: u32 = 640;
+
 const HEIGHT: u32 = 352;
 
 #[derive(Drop)]

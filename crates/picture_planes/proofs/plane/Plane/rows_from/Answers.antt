@@ -7,9 +7,9 @@ pub returns-clause-value : goal.returns-clause-value
 unfolding buffer_at
 returns-clause-value c i j p q =
     rw (tail_is (c.args.row * (c.args.self.now.width + 2 * c.args.self.now.pad) + c.args.column) c.deref.result.now, c.deref.ensures.value)
-      (block_at c.args.self.now.bytes.items (c.args.self.now.width + 2 * c.args.self.now.pad) c.args.column c.args.row i j)
+    (block_at c.args.self.now.bytes.items (c.args.self.now.width + 2 * c.args.self.now.pad) c.args.column c.args.row i j)
 
 pub returns-clause-len : goal.returns-clause-len
 returns-clause-len c w h p q s =
     rw (tail_is (c.args.row * (c.args.self.now.width + 2 * c.args.self.now.pad) + c.args.column) c.deref.result.now)
-      (rows_fit c.deref.result.now (c.args.self.now.width + 2 * c.args.self.now.pad) (c.args.self.now.height + 2 * c.args.self.now.pad) c.args.column c.args.row w h (omega arith) p q s)
+    (rows_fit c.deref.result.now (c.args.self.now.width + 2 * c.args.self.now.pad) (c.args.self.now.height + 2 * c.args.self.now.pad) c.args.column c.args.row w h (omega arith) p q s)
