@@ -2,3 +2,4 @@ pub mod Leasts
 pub mod Bests
 pub mod Insides
 pub mod Planned
+pub mod Known
