@@ -1,5 +1,5 @@
 -- The records of a coded slice are records of the syntax.
-use Rattle.std.proofs.Common.{◌≡◌, ◌≤◌, ◌<◌, ◌+◌, ◌-◌, ◌*◌, ◌/◌, ◌%◌, ◌++◌, ℕ, zero, suc, Bool, List, [], ◌∷◌, length, get_or, refl, sym, ap, ◌∙◌, arith, length-append, ◌⊎◌, inl, inr}
+use Rattle.std.proofs.Common.{◌≡◌, ◌≤◌, ◌<◌, ◌+◌, ℕ, zero, suc, List, [], ◌∷◌, length, get_or, refl, sym, ap, ◌∙◌, arith, length-append, ◌⊎◌, inl, inr}
 use Rattle.std.specs.List.{All}
 use Rattle.std.proofs.lemmas.Bool.{cases_lt}
 use Rattle.std.proofs.lemmas.List.{get_or_past}
@@ -13,7 +13,7 @@ use Rattle.spec_bits.specs.declared.heads.SliceHead.{SliceHead}
 use Rattle.spec_film.specs.declared.FilmHead.{FilmHead}
 use Rattle.spec_film.specs.Films.{Planes}
 use Rattle.spec_stream.specs.Pictures.{IsPicture}
-use Rattle.spec_macroblock.specs.Near.{Near, last_qp, near_in}
+use Rattle.spec_macroblock.specs.Near.{last_qp, near_in}
 use Rattle.spec_macroblock.specs.Records.{IsRecord}
 use Rattle.spec_macroblock.proofs.Following.{qp_follows}
 use Rattle.spec_slice_layer.specs.Layer.{Format, Slice, near_of, AreRecords, NeighboursHaveModes}
@@ -88,6 +88,7 @@ are_coded f h kinds plans source p (suc n) s =
     let now : Planes = slice_built f.across h.first_mb before p in
     let mb : MbRecord = coded_record f.across site (kinds a) (plans a) source now in
     let done : AreRecords f h [] before × (last_qp h.qp before ≡ h.qp) = are_coded f h kinds plans source p n s in
-    let fits : PlanesFit now = slice_bytes f.across h.first_mb before p s.built in
-    (one_more f h before mb done.0 (one_coded f h before site (kinds a) (plans a) source now (stands f h before site s.kind s.qp done.1 refl done.0) (s.kinds_fit a) (s.plans_fit a) s.source_fits fits),
-    qp_follows h.qp before mb ∙ record_qp f.across site (kinds a) (plans a) source now)
+    let fits : PlanesFit now = slice_bytes f.across h.first_mb before p s.built in (
+      one_more f h before mb done.0 (one_coded f h before site (kinds a) (plans a) source now (stands f h before site s.kind s.qp done.1 refl done.0) (s.kinds_fit a) (s.plans_fit a) s.source_fits fits),
+      qp_follows h.qp before mb ∙ record_qp f.across site (kinds a) (plans a) source now,
+    )

@@ -1,10 +1,9 @@
 -- What a decoder shows of an encoding.
-use Rattle.std.proofs.Common.{◌≡◌, ◌≤◌, ◌<◌, ◌+◌, ◌-◌, ◌*◌, ◌/◌, ◌%◌, ◌++◌, ℕ, Bool, true, List, [], ◌∷◌, length, map, Some, None, refl, sym, ap, ap₂, ◌∙◌, arith, lit<, lit≤}
+use Rattle.std.proofs.Common.{◌≡◌, ◌≤◌, ◌+◌, ◌/◌, ◌++◌, ℕ, true, List, [], ◌∷◌, map, Some, refl, ap, ap₂, ◌∙◌, arith, lit<, lit≤}
 use Rattle.std.specs.List.{All}
 use Rattle.std.proofs.lemmas.List.Elements.{All-head, All-tail}
 use Rattle.spec_film.specs.declared.FilmHead.{FilmHead}
 use Rattle.spec_film.specs.Films.{Planes, AllowedHead}
-use Rattle.spec_bits.specs.declared.heads.SeqHead.{SeqHead}
 use Rattle.spec_bits.specs.Allowed.{IsSeqHead}
 use Rattle.spec_words.specs.declared.Settings.{Settings}
 use Rattle.spec_stream.specs.Decode.{across_of, down_of}
@@ -15,7 +14,7 @@ use Rattle.spec_pictures.specs.Decode.{decode_by}
 use Rattle.spec_pictures.specs.Coded.{CodedSlice, AllCover, slices_in, stream_of, picture_units, shown_of}
 use Rattle.spec_pictures.proofs.Streams.{streams_decode}
 use Rattle.spec_encoding.specs.Frames.{format_of, frames, picture_of, decode}
-use Rattle.spec_encoding.specs.Coding.{Settled, coded_picture}
+use Rattle.spec_encoding.specs.Coding.{coded_picture}
 use Rattle.spec_encoding.specs.Encoding.{sequence_of, settled, with_payload, coded_with_payloads, encoded_picture, encoded_pictures, reconstructed, reconstruction}
 use Rattle.spec_encoding.proofs.Coded.{picture_fits}
 use Rattle.spec_encoding.proofs.Covering.{IsSettled, picture_covers}
@@ -72,7 +71,7 @@ unfolding all_coded coded_with_payloads reconstruction reconstructed
 shown_is h s number [] = refl
 shown_is h s number (p ∷ ps) =
     ap₂ (λ (slices : List Slice) (rest : List Planes).
-      cropped (across_of (sequence_of h)) (sequence_of h).width (sequence_of h).height (picture_of (across_of (sequence_of h)) (down_of (sequence_of h)) slices) ∷ rest)
+    cropped (across_of (sequence_of h)) (sequence_of h).width (sequence_of h).height (picture_of (across_of (sequence_of h)) (down_of (sequence_of h)) slices) ∷ rest)
     (slices_are (format_of (sequence_of h) s.t8x8) (coded_picture (settled h s) number p)) (shown_is h s (number + 1) ps)
 
 pub encodings_decode : (h : FilmHead) (s : Settings) (pictures : List Planes) → AllowedHead h → s.qp ≤ 51 → 1 ≤ s.slices → s.slices ≤ (h.height + 15) / 16 → All (IsPicture h) pictures
