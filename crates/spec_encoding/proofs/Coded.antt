@@ -1,5 +1,5 @@
 -- The records of a coded slice are records of the syntax.
-use Rattle.std.proofs.Common.{◌≡◌, ◌≤◌, ◌<◌, ◌+◌, ◌-◌, ◌*◌, ◌/◌, ◌%◌, ◌++◌, ℕ, zero, suc, Bool, List, [], ◌∷◌, length, get_or, refl, sym, ap, ◌∙◌, arith, length-append, ◌⊎◌, inl, inr}
+use Rattle.std.proofs.Common.{◌≡◌, ◌≤◌, ◌<◌, ◌+◌, ℕ, zero, suc, List, [], ◌∷◌, length, get_or, refl, sym, ap, ◌∙◌, arith, length-append, ◌⊎◌, inl, inr}
 use Rattle.std.specs.List.{All}
 use Rattle.std.proofs.lemmas.Bool.{cases_lt}
 use Rattle.std.proofs.lemmas.List.{get_or_past}
@@ -13,7 +13,7 @@ use Rattle.spec_bits.specs.declared.heads.SliceHead.{SliceHead}
 use Rattle.spec_film.specs.declared.FilmHead.{FilmHead}
 use Rattle.spec_film.specs.Films.{Planes}
 use Rattle.spec_stream.specs.Pictures.{IsPicture}
-use Rattle.spec_macroblock.specs.Near.{Near, last_qp, near_in}
+use Rattle.spec_macroblock.specs.Near.{last_qp, near_in}
 use Rattle.spec_macroblock.specs.Records.{IsRecord}
 use Rattle.spec_macroblock.proofs.Following.{qp_follows}
 use Rattle.spec_slice_layer.specs.Layer.{Format, Slice, near_of, AreRecords, NeighboursHaveModes}

@@ -1,12 +1,12 @@
 -- The slices of a coded picture are slices of the syntax, and cover its macroblocks in order.
-use Rattle.std.proofs.Common.{◌≡◌, ◌≤◌, ◌<◌, ◌+◌, ◌-◌, ◌*◌, ◌/◌, ◌%◌, ◌^◌, ◌++◌, ℕ, zero, suc, Bool, true, List, [], ◌∷◌, length, map, Some, refl, sym, ap, subst, ◌∙◌, arith, lit<, lit≤}
+use Rattle.std.proofs.Common.{◌≡◌, ◌≤◌, ◌<◌, ◌+◌, ◌-◌, ◌*◌, ◌/◌, ◌%◌, ◌^◌, ◌++◌, ℕ, zero, suc, Bool, true, List, [], ◌∷◌, length, map, refl, sym, ap, subst, ◌∙◌, arith, lit<}
 use Rattle.std.proofs.lemmas.List.{map-append}
 use Rattle.std.proofs.lemmas.Nat.{mul-le}
 use Rattle.spec_film.specs.Films.{Planes}
 use Rattle.spec_bits.specs.declared.heads.SeqHead.{SeqHead}
 use Rattle.spec_reading.specs.HeadReaders.{idr_head}
 use Rattle.spec_stream.specs.Decode.{across_of, down_of}
-use Rattle.spec_slice_layer.specs.Layer.{Format, Slice, IsIdrHead, IsSlice, layer_payload}
+use Rattle.spec_slice_layer.specs.Layer.{Format, Slice, IsIdrHead, IsSlice}
 use Rattle.spec_slice_layer.proofs.Layers.{layer_back}
 use Rattle.spec_pictures.specs.Decode.{Reading}
 use Rattle.spec_pictures.specs.Coded.{CodedSlice, IsCodedSlice, Covers}

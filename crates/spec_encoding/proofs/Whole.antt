@@ -1,10 +1,9 @@
 -- What a decoder shows of an encoding.
-use Rattle.std.proofs.Common.{◌≡◌, ◌≤◌, ◌<◌, ◌+◌, ◌-◌, ◌*◌, ◌/◌, ◌%◌, ◌++◌, ℕ, Bool, true, List, [], ◌∷◌, length, map, Some, None, refl, sym, ap, ap₂, ◌∙◌, arith, lit<, lit≤}
+use Rattle.std.proofs.Common.{◌≡◌, ◌≤◌, ◌+◌, ◌/◌, ◌++◌, ℕ, true, List, [], ◌∷◌, map, Some, refl, ap, ap₂, ◌∙◌, arith, lit<, lit≤}
 use Rattle.std.specs.List.{All}
 use Rattle.std.proofs.lemmas.List.Elements.{All-head, All-tail}
 use Rattle.spec_film.specs.declared.FilmHead.{FilmHead}
 use Rattle.spec_film.specs.Films.{Planes, AllowedHead}
-use Rattle.spec_bits.specs.declared.heads.SeqHead.{SeqHead}
 use Rattle.spec_bits.specs.Allowed.{IsSeqHead}
 use Rattle.spec_words.specs.declared.Settings.{Settings}
 use Rattle.spec_stream.specs.Decode.{across_of, down_of}
@@ -12,10 +11,10 @@ use Rattle.spec_stream.specs.Pictures.{IsPicture}
 use Rattle.spec_stream.specs.Samples.{cropped}
 use Rattle.spec_slice_layer.specs.Layer.{Format, Slice}
 use Rattle.spec_pictures.specs.Decode.{decode_by}
-use Rattle.spec_pictures.specs.Coded.{CodedSlice, AllCover, slices_in, stream_of, picture_units, shown_of}
+use Rattle.spec_pictures.specs.Coded.{CodedSlice, Covers, AllCover, slices_in, stream_of, picture_units, shown_of}
 use Rattle.spec_pictures.proofs.Streams.{streams_decode}
 use Rattle.spec_encoding.specs.Frames.{format_of, frames, picture_of, decode}
-use Rattle.spec_encoding.specs.Coding.{Settled, coded_picture}
+use Rattle.spec_encoding.specs.Coding.{coded_picture}
 use Rattle.spec_encoding.specs.Encoding.{sequence_of, settled, with_payload, coded_with_payloads, encoded_picture, encoded_pictures, reconstructed, reconstruction}
 use Rattle.spec_encoding.proofs.Coded.{picture_fits}
 use Rattle.spec_encoding.proofs.Covering.{IsSettled, picture_covers}
@@ -74,6 +73,11 @@ shown_is h s number (p ∷ ps) =
     ap₂ (λ (slices : List Slice) (rest : List Planes).
     cropped (across_of (sequence_of h)) (sequence_of h).width (sequence_of h).height (picture_of (across_of (sequence_of h)) (down_of (sequence_of h)) slices) ∷ rest)
     (slices_are (format_of (sequence_of h) s.t8x8) (coded_picture (settled h s) number p)) (shown_is h s (number + 1) ps)
+
+pub coded_pictures_cover : (h : FilmHead) (s : Settings) (number : ℕ) (source : Planes) → AllowedHead h → s.qp ≤ 51 → 1 ≤ s.slices → s.slices ≤ (h.height + 15) / 16 → IsPicture h source
+    → Covers frames (sequence_of h) (true, s.t8x8) 0 (coded_with_payloads h s number source)
+unfolding coded_with_payloads
+coded_pictures_cover h s number source allowed qp some few is = picture_covers (sequence_of h) (settled h s) number source (is_settled h s allowed qp some few) (picture_fits h source is)
 
 pub encodings_decode : (h : FilmHead) (s : Settings) (pictures : List Planes) → AllowedHead h → s.qp ≤ 51 → 1 ≤ s.slices → s.slices ≤ (h.height + 15) / 16 → All (IsPicture h) pictures
     → decode (encoded_pictures h s 0 pictures) ≡ Some (reconstruction h s 0 pictures)

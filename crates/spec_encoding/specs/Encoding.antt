@@ -1,5 +1,5 @@
 -- The bytes of an encoding, and what it shows.
-use Rattle.std.specs.Prelude.{ℕ, ◌+◌, Bool, true, List, [], ◌∷◌, ◌++◌, map, None}
+use Rattle.std.specs.Prelude.{ℕ, ◌+◌, true, List, [], ◌∷◌, ◌++◌, map, None}
 use Rattle.spec_film.specs.declared.FilmHead.{FilmHead}
 use Rattle.spec_film.specs.Films.{Planes}
 use Rattle.spec_bits.specs.declared.heads.SeqHead.{SeqHead}
@@ -7,7 +7,7 @@ use Rattle.spec_words.specs.declared.Settings.{Settings}
 use Rattle.spec_slice_layer.specs.Layer.{Format, Slice, layer_payload}
 use Rattle.spec_stream.specs.Decode.{across_of, down_of}
 use Rattle.spec_stream.specs.Samples.{cropped}
-use Rattle.spec_pictures.specs.Coded.{CodedSlice, stream_of, picture_units}
+use Rattle.spec_pictures.specs.Coded.{CodedSlice, picture_units}
 use Rattle.spec_encoding.specs.Frames.{format_of, picture_of}
 use Rattle.spec_encoding.specs.Coding.{Settled, coded_picture}
 
