@@ -1,5 +1,5 @@
 -- The difference of two blocks of buffers is the cost of the vector between them.
-use Rattle.std.proofs.Common.{◌≡◌, ◌≢◌, ℕ, ◌+◌, ◌-◌, ◌*◌, ◌<◌, ◌≤◌, ◌⊎◌, inl, inr, List, get_or, refl, sym, ap, ◌∙◌, arith, min}
+use Rattle.std.proofs.Common.{◌≡◌, ◌≢◌, ℕ, ◌+◌, ◌-◌, ◌<◌, ◌≤◌, ◌⊎◌, inl, inr, List, get_or, refl, sym, ap, ◌∙◌, arith}
 use Rattle.std.proofs.lemmas.Int.{ints}
 use Rattle.std.specs.Prelude.{ℤ, pos, ◌+ℤ◌, ◌-ℤ◌}
 use Rattle.std.specs.Int.{abs_diff}
@@ -11,7 +11,7 @@ use Rattle.spec_search.specs.Scan.{dx_of, dy_of}
 use Rattle.spec_search.specs.Window.{cost_of}
 use Rattle.picture_planes.specs.declared.plane.Plane.{Plane}
 use Rattle.picture_planes.specs.Samples.{at}
-use Rattle.picture_planes.specs.Margins.{nearest, IsFilled, IsBlock, buffer_at, buffer_row, buffer_width, buffer_height, inward}
+use Rattle.picture_planes.specs.Margins.{nearest, IsBlock, buffer_at, buffer_row, buffer_width, inward}
 use Rattle.picture_planes.proofs.Filling.{buffer_at_row, at_buffer_row}
 use Rattle.motion_search.specs.Planes.{costs, Searchable, IsNear}
 

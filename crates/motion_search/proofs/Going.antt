@@ -1,12 +1,12 @@
 -- A search that goes on by one place.
-use Rattle.std.proofs.Common.{◌≡◌, ℕ, suc, ◌+◌, ◌-◌, ◌*◌, ◌<◌, ◌≤◌, refl, sym, ap, ◌∙◌, subst, arith, add-one}
+use Rattle.std.proofs.Common.{◌≡◌, ℕ, suc, ◌+◌, ◌<◌, ◌≤◌, ap, ◌∙◌, subst, arith, add-one}
 use Rattle.std.specs.Prelude.{ℤ}
 use Rattle.spec_search.specs.declared.blocks.Spot.{Spot}
-use Rattle.spec_search.specs.Scan.{spot_at, dx_of, dy_of, window_size, next}
+use Rattle.spec_search.specs.Scan.{spot_at, dx_of, dy_of, window_size}
 use Rattle.spec_search.specs.Least.{Searched}
 use Rattle.spec_search.specs.Window.{scanned, IsWindowBest}
 use Rattle.spec_search.proofs.Places.{passed_over, compared_kept, compared_moved, started}
-use Rattle.spec_search.proofs.Ranks.{within, arrived}
+use Rattle.spec_search.proofs.Ranks.{within}
 use Rattle.spec_search.proofs.WindowLaws.{window_best}
 use Rattle.motion_search.specs.declared.candidates.Found.{Found}
 use Rattle.motion_search.specs.Planes.{IsNear}

@@ -1,3 +1,4 @@
 pub mod Costs
 pub mod Parts
 pub mod Going
+pub mod Quartering

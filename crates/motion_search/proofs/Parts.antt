@@ -1,20 +1,20 @@
 -- The sums of a block's 8x8 parts, and how far they are apart.
-use Rattle.std.proofs.Common.{◌≡◌, ℕ, zero, suc, ◌+◌, ◌-◌, ◌*◌, ◌/◌, ◌<◌, ◌≤◌, ◌⊎◌, inl, inr, List, [], ◌∷◌, get_or, refl, sym, ap, ◌∙◌, arith, min}
+use Rattle.std.proofs.Common.{◌≡◌, ℕ, zero, suc, ◌+◌, ◌-◌, ◌*◌, ◌/◌, ◌<◌, ◌≤◌, ◌⊎◌, inl, inr, [], ◌∷◌, get_or, ap, ◌∙◌, arith, min}
 use Rattle.std.proofs.lemmas.Int.{ints}
-use Rattle.std.specs.Prelude.{ℤ, pos, ◌+ℤ◌, ◌-ℤ◌}
+use Rattle.std.specs.Prelude.{ℤ, pos, ◌+ℤ◌}
 use Rattle.std.specs.Int.{abs_diff}
 use Rattle.spec_kernels.specs.Sums.{sum_below, block_sum, shifted}
 use Rattle.spec_kernels.proofs.SumLaws.{block-same}
 use Rattle.spec_search.specs.declared.blocks.Block.{Block}
 use Rattle.spec_search.specs.declared.blocks.Spot.{Spot}
 use Rattle.spec_search.specs.Scan.{dx_of, dy_of}
-use Rattle.spec_search.specs.Window.{bound_of, own, moved}
+use Rattle.spec_search.specs.Window.{own, moved}
 use Rattle.picture_planes.specs.declared.plane.Plane.{Plane}
 use Rattle.picture_planes.specs.Samples.{at}
 use Rattle.picture_planes.specs.Margins.{nearest, inward}
 use Rattle.block_sums.specs.declared.table.SumTable.{SumTable}
 use Rattle.block_sums.specs.Tables.{IsTableOf, sum_at}
-use Rattle.motion_search.specs.Planes.{IsBlockIn, IsNear, bounds}
+use Rattle.motion_search.specs.Planes.{IsBlockIn, IsNear}
 use Rattle.motion_search.proofs.Costs.{away}
 
 within : (n k : ℕ) → (n ≡ 8) ⊎ (n ≡ 16) → k < n / 8 → 8 * k + 8 ≤ n

@@ -1,2 +1,4 @@
 pub mod Planes
 pub mod Reached
+pub mod Quarters
+pub mod Rounds

@@ -8,10 +8,12 @@ ghost use Rattle.motion_search.specs.Planes.{IsBlockIn};
 mod alone;
 mod bounds;
 mod candidates;
+mod quarters;
 mod steps;
 mod window;
 
 pub use alone::search_alone;
+pub use quarters::refine;
 pub use spec_search::{Best, Block};
 pub use steps::{Steps, begun};
 pub use window::search;

@@ -1,6 +1,5 @@
-use Rattle.std.proofs.Common.{◌≡◌, ◌≢◌, ◌≤◌, ◌<◌, ◌+◌, ◌-◌, ◌*◌, ◌/◌, ◌∙◌, ℕ, arith, refl, sym, ap, eq-eqb, get_or, inl, inr}
-use Rattle.std.specs.Int.{abs_diff}
-use Rattle.spec_kernels.specs.Sums.{block_sum, shifted, sum_apart}
+use Rattle.std.proofs.Common.{◌≡◌, ◌<◌, ◌+◌, ◌-◌, ◌*◌, ◌/◌, ◌∙◌, ℕ, arith, eq-eqb, inl, inr}
+use Rattle.spec_kernels.specs.Sums.{shifted, sum_apart}
 use Rattle.spec_search.specs.Scan.{dx_of, dy_of}
 use Rattle.spec_search.specs.Window.{own, moved, bound_of}
 use Rattle.picture_planes.specs.Samples.{at}

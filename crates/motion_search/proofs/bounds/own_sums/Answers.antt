@@ -1,4 +1,4 @@
-use Rattle.std.proofs.Common.{◌≡◌, ◌≢◌, ◌≤◌, ◌<◌, ◌+◌, ◌-◌, ◌*◌, ◌/◌, ◌∙◌, ℕ, arith, refl, sym, ap, eq-eqb, get_or}
+use Rattle.std.proofs.Common.{◌*◌, ◌∙◌, ℕ, arith, refl, eq-eqb}
 use Rattle.spec_kernels.specs.Sums.{block_sum, shifted}
 use Rattle.spec_search.specs.Window.{own}
 use Rattle.picture_planes.specs.Samples.{at}

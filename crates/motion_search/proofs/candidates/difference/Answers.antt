@@ -1,4 +1,4 @@
-use Rattle.std.proofs.Common.{◌≡◌, ◌≢◌, ◌≤◌, ◌<◌, ◌+◌, ◌-◌, ◌*◌, ◌/◌, ◌∙◌, ℕ, arith, refl, sym, ap, eq-eqb, get_or}
+use Rattle.std.proofs.Common.{◌∙◌, arith}
 use Rattle.motion_search.proofs.Costs.{cost_is, eight_or, sides}
 use Rattle.motion_search.proofs.candidates.difference.Goals as goal
 

@@ -1,4 +1,4 @@
-use Rattle.std.proofs.Common.{◌≡◌, ◌≤◌, ◌+◌, ℕ, arith}
+use Rattle.std.proofs.Common.{arith}
 use Rattle.motion_search.proofs.tests.best_of.Goals as goal
 
 pub search_alone-best-requires-clause-sizes : goal.search_alone-best-requires-clause-sizes

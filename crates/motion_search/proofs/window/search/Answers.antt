@@ -1,5 +1,5 @@
-use Rattle.std.proofs.Common.{◌≡◌, ◌≢◌, ◌≤◌, ◌<◌, ◌+◌, ◌-◌, ◌*◌, ◌/◌, ◌∙◌, ℕ, arith, refl, sym, ap, eq-eqb, get_or}
-use Rattle.spec_search.specs.Scan.{spot_at, dx_of, dy_of}
+use Rattle.std.proofs.Common.{◌≡◌, ◌+◌, ◌-◌, arith, refl}
+use Rattle.spec_search.specs.Scan.{spot_at}
 use Rattle.spec_search.proofs.Ranks.{arrived}
 use Rattle.motion_search.specs.Planes.{costs, bounds}
 use Rattle.motion_search.proofs.Going.{begun_at, near_of, near_found, ended, some_window}

@@ -1,4 +1,4 @@
-use Rattle.std.proofs.Common.{◌≡◌, ◌≤◌, ◌+◌, ◌-◌, ℕ}
+use Rattle.std.proofs.Common.{◌≡◌, ◌≤◌, ◌+◌, ◌-◌}
 use Rattle.spec_search.specs.Scan.{spot_at}
 use Rattle.motion_search.specs.Planes.{costs, bounds}
 use Rattle.motion_search.specs.Reached.{Reached}

@@ -1,4 +1,4 @@
-use Rattle.std.proofs.Common.{◌≡◌, ◌≢◌, ◌≤◌, ◌<◌, ◌+◌, ◌-◌, ◌*◌, ◌/◌, ◌∙◌, ℕ, arith, refl, sym, ap, eq-eqb, get_or}
+use Rattle.std.proofs.Common.{arith, refl}
 use Rattle.spec_search.specs.Scan.{dx_of, dy_of}
 use Rattle.spec_search.proofs.WindowLaws.{bound_under}
 use Rattle.picture_planes.specs.Samples.{at}
