@@ -71,7 +71,7 @@ fn predicts_macroblocks(rt: HostRuntime) -> Result<(), Fail> {
     let plane = pred_chroma(3, &near_chroma);
     assert_eq!(rt;
         (plane[0], plane[7], plane[36], plane[56], plane[63]),
-        (5, 11, 20, 32, 38)
+        (5, 11, 24, 32, 38)
     );
     assert_eq!(rt; allowed(4, 8, &EVERYWHERE), true);
     assert_eq!(rt; allowed(2, 4, &EVERYWHERE), false);
