@@ -29,7 +29,7 @@ use Rattle.spec_encoding.specs.Encoding.{sequence_of, with_payload}
 -- of QP 24, Intra 16x16 by the mean, without levels, in one slice, where 8x8 transforms may be used
 row_grey : picture_units (sequence_of (record { width = 16; height = 16; num = 25; den = 1 })) (true, true)
     (with_payload (record { across = 1; total = 1; t8x8 = true })
-      (record { head = idr_head 0 0 0 0 24 true; records = record (blank_record MbKind.Intra16 24) { modes = 2 ∷ replicate 15 0 } ∷ [] }) ∷ [])
+    (record { head = idr_head 0 0 0 0 24 true; records = record (blank_record MbKind.Intra16 24) { modes = 2 ∷ replicate 15 0 } ∷ [] }) ∷ [])
     ≡ 0 ∷ 0 ∷ 0 ∷ 1 ∷ 103 ∷ 100 ∷ 0 ∷ 51 ∷ 172 ∷ 27 ∷ 26 ∷ 158 ∷ 64
     ∷ 0 ∷ 0 ∷ 0 ∷ 1 ∷ 104 ∷ 238 ∷ 56 ∷ 176
     ∷ 0 ∷ 0 ∷ 1 ∷ 101 ∷ 136 ∷ 128 ∷ 0 ∷ 64 ∷ 0 ∷ 2 ∷ 255 ∷ 254 ∷ 214 ∷ 223 ∷ 128 ∷ []
