@@ -46,7 +46,9 @@ pub struct Around<'a> {
     pub t8x8: bool,
 }
 
-fn write_all(coder: &mut Coder, contexts: &mut Contexts, mb: &MbRecord, around: &Around)
+/// Codes a macroblock, without the end_of_slice_flag behind it. `mb` is a record that the syntax can give there, with the QP of the
+/// macroblock before. From the first bin that doesn't fit on nothing more is coded, and `Coder::is_full` tells it.
+pub fn code_mb(coder: &mut Coder, contexts: &mut Contexts, mb: &MbRecord, around: &Around)
     requires ready { IsReady (seen coder.old contexts.old) }
     requires record_ { IsRecord (near_of around.now mb.now) mb.now }
     ensures { Codes (seen coder.old contexts.old) (macroblock_string (near_of around.now mb.now) mb.now) (seen coder.new contexts.new) }
@@ -84,6 +86,6 @@ pub fn write_mb(
     ensures goes_on { GoesOn (macroblock_string (near_of around.now mb.now) mb.now) }
     ensures read_back { Reads (macroblock (near_of around.now mb.now)) (macroblock_string (near_of around.now mb.now) mb.now) mb.now }
 {
-    write_all(coder, contexts, mb, around);
+    code_mb(coder, contexts, mb, around);
     outcome(coder)
 }

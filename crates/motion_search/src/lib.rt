@@ -3,6 +3,7 @@
 #![tactic(auto)]
 
 ghost use Rattle.std.specs.Prelude.{◌<◌, ◌≤◌};
+ghost use Rattle.spec_search.specs.Scan.{InRange};
 ghost use Rattle.motion_search.specs.Planes.{IsBlockIn};
 
 mod alone;
@@ -153,6 +154,106 @@ mod tests {
             3,
         )?;
         assert_eq!(rt; best, (2, -3, 3464, 49));
+        Ok(())
+    }
+
+    // 64 rows of 64 samples that rise slowly, sampled from a place on that is given in quarter samples.
+    fn slopes(right: usize, down: usize) -> [u8; 4096]
+        requires { (right < 256) × (down < 256) }
+    {
+        let mut out = [0; 4096];
+        for (place, sample) in out.iter_mut().enumerate() {
+            let x = place % 64 * 4 + right;
+            let y = place / 64 * 4 + down;
+            *sample = ((x * x / 400 + y * 3 + x * y / 90) % 251) as u8;
+        }
+        out
+    }
+
+    fn refined_of(
+        rt: &HostRuntime,
+        source: &[u8; 4096],
+        reference: &[u8; 4096],
+        block: Block,
+        dx: i16,
+        dy: i16,
+    ) -> Result<(i16, i16, u32), Fail>
+        requires block { IsBlockIn 64 64 block }
+        requires best { InRange 32 dx dy }
+    {
+        let mut from = Plane::new(rt.alloc(), 64, 64, 0)?;
+        from.set_rows(0, 64, source);
+        let mut to = Plane::new(rt.alloc(), 64, 64, 40)?;
+        to.set_rows(0, 64, reference);
+        to.pad_edges();
+        let best = Best {
+            dx,
+            dy,
+            sad: 0,
+            compared: 1,
+        };
+        let (vector, cost) = refine(&from, &to, block, &best);
+        Ok((vector.x, vector.y, cost))
+    }
+
+    #[test]
+    fn flat_pictures_keep_the_vector(rt: HostRuntime) -> Result<(), Fail> {
+        let grey = [128; 4096];
+        let block = Block {
+            x: 16,
+            y: 16,
+            w: 16,
+            h: 16,
+        };
+        let refined = refined_of(&rt, &grey, &grey, block, -3, 2)?;
+        assert_eq!(rt; refined, (-12, 8, 0));
+        Ok(())
+    }
+
+    // The expected values come from a plain program in Python with the standard's formulas for single samples.
+    #[test]
+    fn moved_slopes(rt: HostRuntime) -> Result<(), Fail> {
+        let source = slopes(20, 20);
+        let block = Block {
+            x: 24,
+            y: 24,
+            w: 16,
+            h: 16,
+        };
+        let refined = refined_of(&rt, &source, &slopes(22, 23), block, 2, -1)?;
+        assert_eq!(rt; refined, (6, -7, 2099));
+        let block = Block {
+            x: 0,
+            y: 0,
+            w: 8,
+            h: 8,
+        };
+        let refined = refined_of(&rt, &source, &slopes(25, 13), block, 1, 1)?;
+        assert_eq!(rt; refined, (1, 6, 59));
+        let block = Block {
+            x: 48,
+            y: 48,
+            w: 16,
+            h: 16,
+        };
+        let refined = refined_of(&rt, &source, &slopes(13, 26), block, 0, -1)?;
+        assert_eq!(rt; refined, (2, -3, 3302));
+        let block = Block {
+            x: 8,
+            y: 40,
+            w: 8,
+            h: 16,
+        };
+        let refined = refined_of(&rt, &source, &slopes(25, 13), block, -2, 3)?;
+        assert_eq!(rt; refined, (-9, 10, 1199));
+        let block = Block {
+            x: 40,
+            y: 0,
+            w: 16,
+            h: 8,
+        };
+        let refined = refined_of(&rt, &source, &slopes(17, 15), block, 1, 0)?;
+        assert_eq!(rt; refined, (7, 3, 1905));
         Ok(())
     }
 }

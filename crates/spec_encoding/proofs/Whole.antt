@@ -44,7 +44,7 @@ is_settled h s a qp some few = record {
   wide = let e = a.width_least in omega arith;
   across_fits = let e = a.width_most in omega arith;
   down_fits = let e = a.height_most in omega arith;
-  qp = qp;
+  qp = omega (arith, qp);
   some = omega arith;
   few = few;
 }

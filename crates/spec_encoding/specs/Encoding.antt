@@ -1,5 +1,5 @@
 -- The bytes of an encoding, and what it shows.
-use Rattle.std.specs.Prelude.{ℕ, ◌+◌, true, List, [], ◌∷◌, ◌++◌, map, None}
+use Rattle.std.specs.Prelude.{ℕ, ◌+◌, true, List, [], ◌∷◌, ◌++◌, map, None, ◌-◌}
 use Rattle.spec_film.specs.declared.FilmHead.{FilmHead}
 use Rattle.spec_film.specs.Films.{Planes}
 use Rattle.spec_bits.specs.declared.heads.SeqHead.{SeqHead}
@@ -15,8 +15,9 @@ use Rattle.spec_encoding.specs.Coding.{Settled, coded_picture}
 abbrev pub sequence_of : FilmHead → SeqHead
 sequence_of h = record { width = h.width; height = h.height; level = 51; refs = 1; timing = None }
 
+-- the quantisation parameter of an I picture is two below the setting, and at least 0
 abbrev pub settled : FilmHead → Settings → Settled
-settled h s = record { across = across_of (sequence_of h); down = down_of (sequence_of h); qp = s.qp; slices = s.slices; t8x8 = s.t8x8 }
+settled h s = record { across = across_of (sequence_of h); down = down_of (sequence_of h); qp = s.qp - 2; slices = s.slices; t8x8 = s.t8x8 }
 
 abbrev pub with_payload : Format → Slice → CodedSlice Slice
 with_payload f s = record { payload = layer_payload f s; slice = s }

@@ -1,3 +1,4 @@
+pub mod Classes
 pub mod Columns
 pub mod Counted
 pub mod Eight

@@ -4,6 +4,7 @@ ghost use Rattle.spec_residual.specs.declared.BlockKind.TheVariants.{ChromaDc, L
 ghost use Rattle.spec_residual.specs.Blocks.{AllWithin, is_nonzero, item, nonzero_levels};
 ghost use Rattle.spec_residual.specs.Levels.{chroma_dc_levels_of, greatest, level_of, levels4_of, levels8_of, places};
 
+use crate::blocks4::levels4;
 use crate::quant::quantise;
 use crate::tables::{zigzag4, zigzag8};
 use spec_residual::BlockKind;
@@ -42,6 +43,14 @@ fn one_if_nonzero(level: i16) -> u32
     if level == 0 { 0 } else { 1 }
 }
 
+#[inline(always)]
+fn level_at(levels: &[i16; 16], place: u8) -> i16
+    requires { place < 16 }
+    ensures { result ≡ item levels.now place }
+{
+    levels[place as usize]
+}
+
 /// The levels of sixteen coefficients, which stand row by row, in zigzag order: of a 4x4 block, or of luma DC coefficients.
 /// Where a block is coded without its first coefficient, that coefficient is 0 here.
 pub fn quantise4(kind: BlockKind, intra: bool, qp: u8, c: &[i32; 16]) -> Levels4
@@ -52,11 +61,12 @@ pub fn quantise4(kind: BlockKind, intra: bool, qp: u8, c: &[i32; 16]) -> Levels4
     ensures nonzero { result.nonzero ≡ nonzero_levels result.levels }
     ensures small { AllWithin 16 (greatest kind) c.now → AllWithin 16 8191 result.levels }
 {
+    let all = levels4(kind, intra, qp, c);
     let mut levels = [0i16; 16];
     let mut nonzero = 0u32;
     for scan in 0..16usize {
         let place = zigzag4(scan);
-        let level = quantise(kind, intra, qp, place, c[place as usize]);
+        let level = level_at(&all, place);
         levels[scan] = level;
         nonzero += one_if_nonzero(level);
     }

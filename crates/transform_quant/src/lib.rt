@@ -1,6 +1,7 @@
 //! The transforms and the quantiser of residuals, and what a decoder makes of levels.
 #![tactic(auto)]
 
+mod blocks4;
 mod coef;
 mod dc;
 mod edges;
@@ -15,6 +16,7 @@ mod scale;
 mod tables;
 mod turn;
 
+pub use blocks4::{levels4, rescale4};
 pub use dc::{chroma_dc, luma_dc};
 pub use forward::forward4;
 pub use forward8x8::forward8;

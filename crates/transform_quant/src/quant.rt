@@ -23,7 +23,7 @@ fn multiplier_of(kind: BlockKind, qp: u8, place: u8) -> u32
 
 #[inline(always)]
 #[tactic(auto, unfolding(spec_residual::specs::Levels::shift))]
-fn shift_of(kind: BlockKind, qp: u8) -> u32
+pub fn shift_of(kind: BlockKind, qp: u8) -> u32
     requires { qp ≤ 51 }
     ensures value { result ≡ shift kind qp }
     ensures small { result ≤ 24 }
@@ -56,7 +56,7 @@ pub fn power_of_two(n: u32) -> u32
 
 #[inline(always)]
 #[tactic(auto, unfolding(spec_residual::specs::Levels::rounding))]
-fn rounding_of(kind: BlockKind, intra: bool, qp: u8) -> u32
+pub fn rounding_of(kind: BlockKind, intra: bool, qp: u8) -> u32
     requires { qp ≤ 51 }
     ensures { result ≡ rounding kind intra qp }
 {
@@ -84,7 +84,7 @@ fn level_size(c: u32, multiplier: u32, rounding: u32, shift: u32) -> u32
 }
 
 #[inline(always)]
-fn signed_level(c: i32, multiplier: u32, rounding: u32, shift: u32) -> i16
+pub fn signed_level(c: i32, multiplier: u32, rounding: u32, shift: u32) -> i16
     requires in_c { Within 65280 c }
     requires in_multiplier { multiplier ≤ 20972 }
     requires in_rounding { rounding ≤ 16777216 }

@@ -1,7 +1,8 @@
 // The calls against numbers that were computed by hand or by another program.
 use transform_quant::{
-    BlockKind, chroma_dc, forward4, forward8, inverse4, inverse8, luma_dc, quantise,
+    BlockKind, chroma_dc, forward4, forward8, inverse4, inverse8, levels4, luma_dc, quantise,
     quantise_chroma_dc, quantise4, quantise8, rescale, rescale_chroma_dc, rescale_luma_dc,
+    rescale4,
 };
 
 // Sixteen differences, and their transform.
@@ -90,6 +91,19 @@ fn levels_of_4x4(rt: HostRuntime) {
         [5, 1, 2, 0, 1, -1, 2, 0, 0, 0, -4, 3, -2, 2, 1, -4]
     );
     assert_eq!(rt; block.nonzero, 12);
+}
+
+#[test]
+fn levels_row_by_row(rt: HostRuntime) {
+    let levels = [22, 4, -5, 12, 12, 7, -3, -10, 2, 3, 15, 12, 2, -17, 8, -17];
+    assert_eq!(rt; levels4(BlockKind::Luma4, true, 27, &COEFFICIENTS4), levels);
+    assert_eq!(rt;
+        rescale4(27, &levels),
+        [
+            4928, 1152, -1120, 3456, 3456, 2576, -864, -3680, 448, 864, 3360, 3456, 576, -6256,
+            2304, -6256
+        ]
+    );
 }
 
 #[test]

@@ -9,7 +9,7 @@ use Rattle.mb_syntax.proofs.write_mb.Goals as goal
 pub returns-clause-written : goal.returns-clause-written
 returns-clause-written c =
     written c.outcome.result (seen c.args.coder.now c.args.contexts.now) (macroblock_string (near_of c.args.around.now c.args.mb.now) c.args.mb.now) _ (some_bin (near_of c.args.around.now c.args.mb.now) c.args.mb.now c.requires.record_)
-    c.write_all.ensures c.outcome.ensures
+    c.code_mb.ensures c.outcome.ensures
 
 pub returns-clause-read_back : goal.returns-clause-read_back
 returns-clause-read_back c = reads_macroblock (near_of c.args.around.now c.args.mb.now) c.args.mb.now c.requires.record_

@@ -1,4 +1,4 @@
-use Rattle.std.proofs.Common.{◌≡◌, ◌<◌, ℕ, ℤ, List, Bool, length, get_or, arith, ◌∙◌, sym, ap, subst, w16, w32}
+use Rattle.std.proofs.Common.{◌≡◌, ◌<◌, ℕ, ℤ, List, Bool, length, get_or, arith, ◌∙◌, sym, ap, subst, w16}
 use Rattle.std.proofs.lemmas.Int.{to_z-of_z}
 use Rattle.std.proofs.lemmas.List.{length-set}
 use mir.Val.{SFits}
@@ -8,7 +8,7 @@ use Rattle.spec_residual.specs.Blocks.{Within, item}
 use Rattle.spec_residual.specs.Levels.{level_of, levels4_of}
 use Rattle.spec_residual.proofs.Bounds.{in_row, level_small}
 use Rattle.spec_residual.proofs.Listed.{is_listed}
-use Rattle.transform_quant.proofs.Counted.{levels_next, count_next, all_counted, one_small, fits_from_within}
+use Rattle.transform_quant.proofs.Counted.{levels_next, count_next, all_counted, one_small}
 use Rattle.transform_quant.proofs.levels.quantise4.Goals as goal
 
 abbrev level_at : BlockKind → Bool → ℕ → List ℤ → ℕ → ℤ
@@ -16,10 +16,8 @@ level_at kind intra qp xs s = level_of kind intra qp (get_or ZIGZAG4 s 0) (item 
 
 pub loop-scan-preserved : goal.loop-scan-preserved
 loop-scan-preserved c =
-    let place = c.zigzag4-place.result in
-    let f : SFits w32 (item c.args.c.now c.zigzag4-place.result) = fits_from_within _ (c.requires.size c.zigzag4-place.result c.zigzag4-place.ensures.inside) in
-    let r : SFits w16 c.quantise-level.result = record { sfits = c.quantise-level.type_inv } in
-    let is = to_z-of_z w16 c.quantise-level.result r ∙ c.quantise-level.ensures.value ∙ ap (λ (v : ℤ). level_of c.args.kind c.args.intra c.args.qp c.zigzag4-place.result v) (to_z-of_z w32 _ f) ∙ ap (λ (m : ℕ). level_of c.args.kind c.args.intra c.args.qp m (item c.args.c.now m)) c.zigzag4-place.ensures.value in
+    let r : SFits w16 c.level_at-level.result = record { sfits = c.level_at-level.type_inv } in
+    let is = to_z-of_z w16 c.level_at-level.result r ∙ c.level_at-level.ensures ∙ c.levels4-all.ensures.value c.zigzag4-place.result c.zigzag4-place.ensures.inside ∙ ap (λ (m : ℕ). level_of c.args.kind c.args.intra c.args.qp m (item c.args.c.now m)) c.zigzag4-place.ensures.value in
     let one = one_small _ _ c.one_if_nonzero-nonzero.ensures in
     record {
       long = simp length-set c.loop-scan.invariant.long;

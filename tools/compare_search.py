@@ -1,0 +1,245 @@
+"""Compares the built search with that of another encoder and with a plain one. See compare_search.sh."""
+
+import os
+import random
+import re
+import subprocess
+import sys
+
+folder, reference, program = sys.argv[1:]
+PARTS = [(0, 0, 16, 16), (0, 0, 16, 8), (0, 8, 16, 8), (0, 0, 8, 16), (8, 0, 8, 16), (0, 0, 8, 8), (8, 0, 8, 8), (0, 8, 8, 8), (8, 8, 8, 8)]
+part_line = re.compile(r"\s*part (\d) cost (\d+) \[(-?\d+) \((-?\d+),(-?\d+)\) \| (-?\d+) \((-?\d+),(-?\d+)\)\]")
+picture_line = re.compile(r"picture coded \d+ display (\d+) kind (\w) idr (\w+) .* poc (\d+) .* moved (\S+) .* compared (\d+) ")
+
+
+class Picture:
+    """A picture as the other encoder coded it: for each macroblock its nine partitions."""
+
+    def __init__(self, words):
+        self.display, self.kind, self.idr, self.poc = int(words[0]), words[1], words[2] == "true", int(words[3])
+        self.moved = None if words[4] == "None" else int(re.search(r"\d+", words[4])[0])
+        self.compared, self.parts = int(words[5]), []
+
+
+def pictures_of(dump):
+    pictures = []
+    for line in dump.splitlines():
+        words = picture_line.match(line)
+        if words:
+            pictures.append(Picture(words.groups()))
+        words = part_line.match(line)
+        if words:
+            number, cost, *motion = map(int, words.groups())
+            if number == 0:
+                pictures[-1].parts.append([])
+            pictures[-1].parts[-1].append((cost, tuple(motion[:3]), tuple(motion[3:])))
+    return pictures
+
+
+def lists_of(picture, held):
+    """The pictures in which each list's vectors point, of those that are held, the last one first."""
+    if picture.kind == "P":
+        first = list(held)
+        if picture.moved:
+            first.insert(0, first.pop(picture.moved))
+        return first, []
+    before = sorted((p for p in held if p.poc < picture.poc), key=lambda p: -p.poc)
+    after = sorted((p for p in held if p.poc > picture.poc), key=lambda p: p.poc)
+    return before, after[:1]
+
+
+def film(width, height, count, noise, pan):
+    def rows(w, h, f):
+        return bytes(min(255, max(0, f(x, y) + random.randint(-noise, noise))) for y in range(h) for x in range(w))
+
+    texture = [[random.randint(0, 60) for _ in range(64)] for _ in range(64)]
+    pictures = []
+    for t in range(count):
+
+        def luma(x, y):
+            move = pan * t if (x // 24 + y // 24) % 3 else 0
+            x = 4 * x - move
+            left, part, row = x // 8, x % 8, texture[(y - t) // 3 % 64]
+            return 60 + (row[left % 64] * (8 - part) + row[(left + 1) % 64] * part) // 8 + y
+
+        chroma = rows(width // 2, height // 2, lambda x, y: 128 + x - t) + rows(width // 2, height // 2, lambda x, y: 120 + y)
+        pictures.append((rows(width, height, luma), chroma))
+    return pictures
+
+
+def planes_of(path, width, height):
+    """The luma samples of each picture of a film."""
+    data = open(path, "rb").read()
+    place, planes = data.index(b"\n") + 1, []
+    while place < len(data):
+        place = data.index(b"\n", place) + 1
+        planes.append(data[place : place + width * height])
+        place += width * height * 3 // 2
+    return planes
+
+
+class Samples:
+    """A plane's samples at any place, and those between them by ITU-T H.264, clause 8.4.2.2.1."""
+
+    def __init__(self, plane, width, height):
+        self.plane, self.width, self.height = plane, width, height
+
+    def at(self, x, y):
+        return self.plane[max(0, min(self.height - 1, y)) * self.width + max(0, min(self.width - 1, x))]
+
+    def across(self, x, y):
+        return sum(c * self.at(x + k - 2, y) for k, c in enumerate((1, -5, 20, 20, -5, 1)))
+
+    def half(self, x, y, right, down):
+        if right and down:
+            return clip((sum(c * self.across(x, y + k - 2) for k, c in enumerate((1, -5, 20, 20, -5, 1))) + 512) >> 10)
+        if right:
+            return clip((self.across(x, y) + 16) >> 5)
+        if down:
+            return clip((sum(c * self.at(x, y + k - 2) for k, c in enumerate((1, -5, 20, 20, -5, 1))) + 16) >> 5)
+        return self.at(x, y)
+
+    def quarter(self, x, y):
+        """The sample at a place in quarter samples."""
+        parts = x % 4, y % 4
+
+        def near(a, b):
+            """The sample at a place in half samples."""
+            return self.half(x // 4 + a // 2, y // 4 + b // 2, a % 2, b % 2)
+
+        if parts[0] % 2 and parts[1] % 2:
+            # on a diagonal: the half samples across and down that are nearest
+            return (near(1, 0 if parts[1] == 1 else 2) + near(0 if parts[0] == 1 else 2, 1) + 1) >> 1
+        if parts[0] % 2:
+            return (near(parts[0] // 2, parts[1] // 2) + near(parts[0] // 2 + 1, parts[1] // 2) + 1) >> 1
+        if parts[1] % 2:
+            return (near(parts[0] // 2, parts[1] // 2) + near(parts[0] // 2, parts[1] // 2 + 1) + 1) >> 1
+        return near(parts[0] // 2, parts[1] // 2)
+
+
+def clip(value):
+    return min(255, max(0, value))
+
+
+def plain_search(source, near, left, top, wide, high, span):
+    """What the search has to find: vector, cost and count, and the refined vector and its cost."""
+    cells = [(x, y) for y in range(top, top + high) for x in range(left, left + wide)]
+    corners = [(x, y) for y in range(top, top + high, 8) for x in range(left, left + wide, 8)]
+    vectors = [(x, y) for y in range(-span, span + 1) for x in range(-span, span + 1)]
+    vectors.sort(key=lambda v: (max(abs(v[0]), abs(v[1])), v[1], v[0]))
+
+    def total(samples, x, y, dx, dy):
+        return sum(samples.at(x + i + dx, y + j + dy) for j in range(8) for i in range(8))
+
+    own = [total(source, x, y, 0, 0) for x, y in corners]
+    costs, compared, least = [], 0, None
+    for dx, dy in vectors:
+        cost = sum(abs(source.at(x, y) - near.at(x + dx, y + dy)) for x, y in cells)
+        bound = sum(abs(sum_ - total(near, x, y, dx, dy)) for sum_, (x, y) in zip(own, corners))
+        compared += least is None or bound < least
+        least = cost if least is None else min(least, cost)
+        costs.append(cost)
+    dx, dy = vectors[costs.index(least)]
+    centre = 4 * dx, 4 * dy
+    for step in (2, 1):
+        tried = [centre] + [(centre[0] + a * step, centre[1] + b * step) for b in (-1, 0, 1) for a in (-1, 0, 1) if a or b]
+        costs = [sum(abs(source.at(x, y) - near.quarter(4 * x + a, 4 * y + b)) for x, y in cells) for a, b in tried]
+        centre = tried[costs.index(min(costs))]
+    return [dx, dy, least, compared, *centre, min(costs)]
+
+
+def searched(source, planes, width, height, span):
+    """For each plane and macroblock the rows that the program prints for its nine partitions."""
+    words = [program, str(width), str(height), str(span), str(len(planes))]
+    told = subprocess.run(words, input=b"".join(source + plane for plane in planes), capture_output=True, check=True).stdout
+    rows = [list(map(int, line.split())) for line in told.decode().splitlines()]
+    blocks = width // 16 * (height // 16)
+    assert len(rows) == 9 * blocks * len(planes)
+    return [[rows[9 * (p * blocks + b) : 9 * (p * blocks + b + 1)] for b in range(blocks)] for p in range(len(planes))]
+
+
+def best_of_list(found, block, part):
+    """The first of least cost of the refined vectors in a list's pictures: its cost and its motion."""
+    rows = [(pictures[block][part][6] + 4 * r, r, *pictures[block][part][4:6]) for r, pictures in enumerate(found)]
+    return min(rows, key=lambda row: row[:2])
+
+
+ABSENT = (-1, 0, 0)
+
+
+def agrees(told, first, second):
+    """Whether what the other encoder says of a partition fits what was found in the lists."""
+    cost, one, other = told
+    if second is None:
+        return told == (first[0], first[1:], ABSENT)
+    if other == ABSENT:
+        return (cost, one) == (first[0], first[1:]) and first[0] <= second[0]
+    if one == ABSENT:
+        return (cost, other) == (second[0], second[1:]) and second[0] < first[0]
+    # Both: the average of the two predictions costs less than each.
+    return (one, other) == (first[1:], second[1:]) and cost < min(first[0], second[0])
+
+
+random.seed(3)
+partitions, plain, compared, moved, differences = {"P": 0, "B": 0}, 0, 0, 0, 0
+
+
+def differs(*words):
+    global differences
+    differences += 1
+    if differences <= 10:
+        print("differs:", *words)
+
+
+for noise, pan, span in ((0, 0, 3), (0, 5, 4), (2, 2, 8), (6, -7, 16), (1, 3, 32), (30, 9, 5)):
+    for refs, bframes in ((1, 0), (3, 0), (2, 2)):
+        width, height = random.choice([(16, 16), (48, 32), (32, 64), (80, 48)])
+        pictures = film(width, height, 6, noise, pan)
+        if refs == 3:
+            # A picture comes again, so that it is moved to the front of the list.
+            pictures[4] = pictures[2]
+        paths = {name: os.path.join(folder, name) for name in ("film", "stream", "recon", "report", "dump")}
+        with open(paths["film"], "wb") as out:
+            out.write(b"YUV4MPEG2 W%d H%d F25:1 Ip C420\n" % (width, height))
+            for luma, chroma in pictures:
+                out.write(b"FRAME\n" + luma + chroma)
+        words = ["--in", paths["film"], "--out", paths["stream"], "--recon", paths["recon"], "--report", paths["report"]]
+        words += ["--bitrate", "60000000", "--qp", "28", "--refs", str(refs), "--bframes", str(bframes), "--range", str(span)]
+        subprocess.run([reference, "--stage", "12", "--dump", paths["dump"], "encode"] + words, check=True)
+        built = planes_of(paths["recon"], width, height)
+        held, here = [], f"noise {noise} pan {pan} range {span} refs {refs} bframes {bframes}"
+        for picture in pictures_of(open(paths["dump"]).read()):
+            if picture.kind != "I":
+                lists = lists_of(picture, held)
+                source = pictures[picture.display][0]
+                found = [searched(source, [built[p.display] for p in each], width, height, span) for each in lists]
+                count = sum(row[3] for each in found for rows in each for block in rows for row in block)
+                if count != picture.compared:
+                    differs(here, f"picture {picture.display}: {count} vectors are compared, not {picture.compared}")
+                compared += count
+                moved += bool(picture.moved)
+                for block, parts in enumerate(picture.parts):
+                    for part, told in enumerate(parts):
+                        first = best_of_list(found[0], block, part)
+                        second = best_of_list(found[1], block, part) if found[1] else None
+                        if agrees(told, first, second):
+                            partitions[picture.kind] += 1
+                        else:
+                            differs(here, f"picture {picture.display} macroblock {block} part {part}: {first} {second}, not {told}")
+                if span <= 8:
+                    block, part = random.randrange(len(picture.parts)), random.randrange(9)
+                    left, top, wide, high = PARTS[part]
+                    left, top = left + block % (width // 16) * 16, top + block // (width // 16) * 16
+                    near = Samples(built[lists[0][0].display], width, height)
+                    wanted = plain_search(Samples(source, width, height), near, left, top, wide, high, span)
+                    if found[0][0][block][part] == wanted:
+                        plain += 1
+                    else:
+                        differs(here, f"picture {picture.display} macroblock {block} part {part}: {found[0][0][block][part]}, plain {wanted}")
+            if picture.kind != "B":
+                held = ([] if picture.idr else held)
+                held = [picture, *held][:refs]
+print(f"{partitions['P']} partitions of P pictures, {partitions['B']} of B pictures and {compared} compared vectors agree with the encoder's")
+print(f"{plain} searches agree with the plain one; {moved} lists had a picture moved to the front")
+print(f"{differences} differences")
+sys.exit(1 if differences or not all(partitions.values()) or not plain else 0)
