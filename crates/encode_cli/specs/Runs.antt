@@ -8,7 +8,7 @@ use Rattle.enc_edge.specs.Calls.{Rose, OpeningFailed, LaterFailed, opened, shut,
 use Rattle.spec_film.specs.declared.FilmHead.{FilmHead}
 use Rattle.spec_film.specs.declared.InputFault.{InputFault}
 use Rattle.spec_film.specs.Films.{Planes, FilmEnd, Ended, Faulty, film_of}
-use Rattle.spec_stream.specs.Decode.{decode}
+use Rattle.spec_decoding.specs.Frames.{decode}
 use Rattle.spec_stream.specs.Stored.{stored_stream}
 
 -- the outside once the input stands open under its name and n of its bytes were taken

@@ -24,7 +24,7 @@ all_coded : FilmHead → Settings → ℕ → List Planes → List (List (CodedS
 all_coded h s number [] = []
 all_coded h s number (p ∷ ps) = coded_with_payloads h s number p ∷ all_coded h s (number + 1) ps
 
-is_sequence : (h : FilmHead) → AllowedHead h → IsSeqHead (sequence_of h)
+pub is_sequence : (h : FilmHead) → AllowedHead h → IsSeqHead (sequence_of h)
 is_sequence h a = record {
   width_from = a.width_least;
   width_to = a.width_most;

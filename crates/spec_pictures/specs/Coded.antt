@@ -50,3 +50,7 @@ AllCover r s flags (p ∷ ps) = Covers r s flags 0 p × AllCover r s flags ps
 -- what each picture shows
 abbrev pub shown_of : {S : Type 0} → Reading S → SeqHead → List (List (CodedSlice S)) → List Planes
 shown_of r s pictures = map (λ p. r.picture s (slices_in p)) pictures
+
+-- the slices of each picture
+abbrev pub slices_of_each : {S : Type 0} → List (List (CodedSlice S)) → List (List S)
+slices_of_each pictures = map slices_in pictures

@@ -23,9 +23,10 @@ pub record Decoder (S : Type 0) : Type 0 where
   pub begun : List S  -- the slices of the picture that is being read
   pub period : List (ℕ × Planes)  -- the pictures since the last IDR picture, by rising picture order count
   pub out : List Planes  -- the pictures of the periods before, in output order
+  pub read : List (List S)  -- the slices of each whole picture, in coded order
 
 abbrev pub start : {S : Type 0} → Decoder S
-start = record { sequence_set = None; picture_set = None; begun = []; period = []; out = [] }
+start = record { sequence_set = None; picture_set = None; begun = []; period = []; out = []; read = [] }
 
 -- how many macroblocks slices have
 abbrev pub counted : {S : Type 0} → Reading S → List S → ℕ
@@ -40,6 +41,7 @@ shown r s h slices d = record {
   begun = [];
   period = placed (h.poc, r.picture s slices) (if h.idr then [] else d.period);
   out = if h.idr then d.out ++ pictures_in d.period else d.out;
+  read = d.read ++ slices ∷ [];
 }
 
 -- the slices of a picture cover its macroblocks in order, each once
@@ -81,7 +83,19 @@ steps r (Some d) (nal ∷ nals) = steps r (step r d nal) nals
 abbrev pub all_shown : {S : Type 0} → Decoder S → Option (List Planes)
 all_shown d = if length d.begun == 0 then Some (d.out ++ pictures_in d.period) else None
 
+-- the slices of all pictures, where none is cut
+abbrev pub all_read : {S : Type 0} → Decoder S → Option (List (List S))
+all_read d = if length d.begun == 0 then Some d.read else None
+
+-- what a decoder is behind a whole stream
+abbrev pub behind : {S : Type 0} → Reading S → List ℕ → Option (Decoder S)
+behind r bytes = option_and_then (steps r (Some start)) (units_of bytes)
+
 -- The pictures that a decoder shows, in output order. Bytes whose units, heads, slices or pictures can't be read so give nothing; no bytes are no picture.
 -- What one slice header must have in common with another (clause 7.4.3) isn't tested.
 unfoldable pub decode_by : {S : Type 0} → Reading S → List ℕ → Option (List Planes)
-decode_by r bytes = option_and_then all_shown (option_and_then (steps r (Some start)) (units_of bytes))
+decode_by r bytes = option_and_then all_shown (behind r bytes)
+
+-- The slices that a decoder reads, for each picture, in coded order: the pictures that it shows are those that these slices make.
+unfoldable pub read_by : {S : Type 0} → Reading S → List ℕ → Option (List (List S))
+read_by r bytes = option_and_then all_read (behind r bytes)

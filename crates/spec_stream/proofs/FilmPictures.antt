@@ -7,9 +7,6 @@ use Rattle.spec_film.specs.declared.FilmHead.{FilmHead}
 use Rattle.spec_film.specs.Films.{Planes, Film, AllowedHead, luma_count, chroma_count, planes_count, planes_at, has_picture, read_picture, FrameStep, Over, Next, Broken, step_from, frame_step, pictures_of, most_pictures, head_with, head_of_line, line_of, has_line, read_head, film_from, film_of}
 use Rattle.spec_film.proofs.FilmLaws.{given, next_lengths, pictures_over, pictures_broken, pictures_next, head_allowed, next_none}
 use Rattle.spec_stream.specs.Pictures.{IsPicture}
-use Rattle.spec_stream.specs.Stored.{stored_stream}
-use Rattle.spec_stream.specs.Decode.{decode}
-use Rattle.spec_stream.proofs.DecodeLaws.{stored_stream_decodes}
 
 -- planes and the bytes behind them are bytes
 record AreBytes (p : Planes) (rest : List ℕ) : Type 0 where
@@ -86,11 +83,11 @@ head_rest bytes head rest small read =
     behind (Some x) after e = (some_pair (x, after) (head, rest) e).1
 
 -- what is known of a film with a head
-record HasHead (film : Film) (h : FilmHead) : Type 0 where
-  allowed : AllowedHead h
-  pictures : All (IsPicture h) film.pictures
+pub record HasHead (film : Film) (h : FilmHead) : Type 0 where
+  pub allowed : AllowedHead h
+  pub pictures : All (IsPicture h) film.pictures
 
-film_has : (bytes : List ℕ) (h : FilmHead) → All IsByte bytes → (film_of bytes).head ≡ Some h → HasHead (film_of bytes) h
+pub film_has : (bytes : List ℕ) (h : FilmHead) → All IsByte bytes → (film_of bytes).head ≡ Some h → HasHead (film_of bytes) h
 unfolding film_of
 film_has bytes h small = go (read_head bytes) refl
   where
@@ -99,8 +96,3 @@ film_has bytes h small = go (read_head bytes) refl
     go (Some (head, rest)) is e =
         let same : head ≡ h = cc in
         subst (λ k. HasHead (film_from (Some (head, rest))) k) same (record { allowed = head_allowed bytes head rest is; pictures = pictures_are most_pictures head rest (head_rest bytes head rest small is) })
-
-pub stored_film_decodes : (bytes : List ℕ) (h : FilmHead) → All IsByte bytes → (film_of bytes).head ≡ Some h → decode (stored_stream h (film_of bytes).pictures) ≡ Some (film_of bytes).pictures
-stored_film_decodes bytes h small is =
-    let has = film_has bytes h small is in
-    stored_stream_decodes h (film_of bytes).pictures has.allowed has.pictures

@@ -1,6 +1,6 @@
 -- Worked rows, computed from the definitions.
 use Rattle.std.specs.Int.Count.{count_leading_zeros}
-use Rattle.std.proofs.Common.{ℕ, ◌≡◌, List, [], ◌∷◌, ◌++◌, replicate, Some, refl}
+use Rattle.std.proofs.Common.{◌≡◌, [], ◌∷◌, replicate, refl}
 use Rattle.spec_film.specs.declared.FilmHead.{FilmHead}
 use Rattle.spec_film.specs.Films.{Planes}
 use Rattle.spec_bits.specs.Bits.{digits, bits_of_bytes, bytes_of_bits}

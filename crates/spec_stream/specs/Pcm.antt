@@ -1,9 +1,11 @@
--- Reading the data of a slice of I_PCM macroblocks.
+-- Reading a slice of I_PCM macroblocks.
 use Rattle.std.specs.Prelude.{ℕ, zero, suc, ◌%◌, ◌==◌, nat_le, Bool, true, false, not, List, [], ◌∷◌, length, take, drop, Option, Some, None, option_and_then, if◌then◌else◌}
 use Rattle.std.specs.List.{list_all}
 use Rattle.std.specs.Option.{option_map}
-use Rattle.spec_bits.specs.Bits.{bytes_of_bits}
+use Rattle.spec_bits.specs.declared.heads.SliceHead.{SliceHead}
+use Rattle.spec_bits.specs.Bits.{bits_of_bytes, bytes_of_bits}
 use Rattle.spec_reading.specs.Reader.{read, ue}
+use Rattle.spec_reading.specs.HeadReaders.{idr_slice}
 
 -- The payload is whole bytes, so the bits to the next byte are as many as the bits that are left are more than whole bytes.
 abbrev pub bits_to_byte : List Bool → ℕ
@@ -36,3 +38,10 @@ pcm_macroblocks zero left = None
 pcm_macroblocks (suc most) left =
     if is_trailing left then Some []
     else option_and_then (λ m. option_map (λ ms. m.0 ∷ ms) (pcm_macroblocks most m.1)) (pcm_macroblock left)
+
+abbrev pub with_macroblocks : SliceHead × List Bool → Option (SliceHead × List (List ℕ))
+with_macroblocks (head, left) = option_map (λ ms. (head, ms)) (pcm_macroblocks (length left) left)
+
+-- a slice of an IDR picture from the bytes of its payload, where entropy_coding_mode_flag is 0: its header, and the samples of its macroblocks in order
+unfoldable pub read_pcm_slice : List ℕ → Option (SliceHead × List (List ℕ))
+read_pcm_slice payload = option_and_then with_macroblocks (read (idr_slice false) (bits_of_bytes payload))

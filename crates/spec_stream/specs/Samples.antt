@@ -14,8 +14,7 @@ sample_at across size first macroblocks i =
 unfoldable pub plane_from : ℕ → ℕ → ℕ → ℕ → List (List ℕ) → List ℕ
 plane_from across down size first macroblocks = map (sample_at across size first macroblocks) (range_with_len 0 (size * across * (size * down)))
 
--- The picture that the macroblocks make. The deblocking filter leaves I_PCM macroblocks as they are where its offsets are 0: qPp is 0 for them,
--- so α is 0 at all their edges (clause 8.7.2.2, table 8-16).
+-- the picture that the samples of macroblocks make
 abbrev pub picture_from : ℕ → ℕ → List (List ℕ) → Planes
 picture_from across down macroblocks = record {
   luma = plane_from across down 16 0 macroblocks;

@@ -1,18 +1,27 @@
-//! Streams: what stores a film, and what a decoder shows of a stream, as definitions, with the laws that join them.
+//! Streams that store a film, and parts of what a decoder shows of a stream, as definitions, with the laws that join them.
 #![tactic(auto)]
 
 ghost use Rattle.std.specs.Prelude.{◌≡◌, ℕ, List, Some};
 ghost use Rattle.std.specs.List.{All};
-ghost use Rattle.spec_bits.specs.Bits.{IsByte};
+ghost use Rattle.spec_bits.specs.Bits.{IsByte, bytes_of_bits};
 ghost use Rattle.spec_film.specs.declared.FilmHead.{FilmHead};
 ghost use Rattle.spec_film.specs.Films.{Planes, AllowedHead, film_of};
 ghost use Rattle.spec_stream.specs.Pictures.{IsPicture};
-ghost use Rattle.spec_stream.specs.Stored.{stored_stream};
-ghost use Rattle.spec_stream.specs.Decode.{decode};
+ghost use Rattle.spec_stream.specs.Stored.{mbs_across, mbs_down, macroblocks_of, stored_slice_head, stored_slice_bits};
+ghost use Rattle.spec_stream.specs.Pcm.{read_pcm_slice};
+ghost use Rattle.spec_stream.specs.Samples.{cropped, picture_from};
 
-/// A decoder shows of the stream that stores pictures exactly these pictures, in their order: all of them, and no sample is changed.
-/// This holds for pictures of every allowed head, however many, and so for the pictures of every film that has a head.
-pub fn stored_streams_decode()
-    ensures pictures { (h : FilmHead) (pictures : List Planes) → AllowedHead h → All (IsPicture h) pictures → decode (stored_stream h pictures) ≡ Some pictures }
-    ensures film { (bytes : List ℕ) (h : FilmHead) → All IsByte bytes → (film_of bytes).head ≡ Some h → decode (stored_stream h (film_of bytes).pictures) ≡ Some (film_of bytes).pictures }
+/// The slice of a stored picture is read back: its header, and the samples of all its macroblocks in order.
+pub fn stored_slices_are_read()
+    ensures { (h : FilmHead) (number : ℕ) (p : Planes) → AllowedHead h → IsPicture h p → read_pcm_slice (bytes_of_bits (stored_slice_bits (mbs_across h) (mbs_down h) number p)) ≡ Some (stored_slice_head number, macroblocks_of (mbs_across h) (mbs_down h) p) }
+{}
+
+/// The macroblocks of a picture make this picture, and none of its samples is cropped.
+pub fn macroblocks_make_their_picture()
+    ensures { (h : FilmHead) (p : Planes) → AllowedHead h → IsPicture h p → cropped (mbs_across h) h.width h.height (picture_from (mbs_across h) (mbs_down h) (macroblocks_of (mbs_across h) (mbs_down h) p)) ≡ p }
+{}
+
+/// The pictures of a film that has a head are pictures of this head, which is an allowed one.
+pub fn films_have_pictures()
+    ensures { (bytes : List ℕ) (h : FilmHead) → All IsByte bytes → (film_of bytes).head ≡ Some h → AllowedHead h × All (IsPicture h) (film_of bytes).pictures }
 {}
