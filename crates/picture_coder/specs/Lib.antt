@@ -1,0 +1,3 @@
+pub mod Planned
+pub mod Slices
+pub mod Pictures
