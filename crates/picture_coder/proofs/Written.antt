@@ -19,19 +19,20 @@ use Rattle.spec_encoding.specs.Coding.{Settled, first_row, first_of, count_of, h
 use Rattle.spec_encoding.proofs.Ends.{payload_ends}
 use Rattle.spec_encoding.proofs.Numbers.{row_none}
 use Rattle.picture_coder.specs.declared.coding.Coding.{Coding}
-use Rattle.picture_coder.specs.Slices.{slice_of, layer_text, units_of}
-use Rattle.picture_coder.specs.Pictures.{settled_of, format_of, slice_at, unit_of, SliceCoded, SlicesCoded, still_long, slices_to, units_to}
+use Rattle.picture_coder.specs.Left.{padded}
+use Rattle.picture_coder.specs.Slices.{units_of}
+use Rattle.picture_coder.specs.Pictures.{settled_of, format_for, slice_at, unit_of, SliceCoded, SlicesCoded, still_long, slices_to, units_to}
 
 -- ---- the text of a payload
 
-pub text_whole : (f : Format) (s : Slice) → length (layer_text f s) % 8 ≡ 0
-text_whole f s = ap (λ (n : ℕ). n % 8) (length-append (layer_bits f s) (align_bits (length (layer_bits f s)))) ∙ align_whole (length (layer_bits f s))
+pub text_whole : (bits : List Bool) → length (padded bits) % 8 ≡ 0
+text_whole bits = ap (λ (n : ℕ). n % 8) (length-append bits (align_bits (length bits))) ∙ align_whole (length bits)
 
-pub text_is_payload : (f : Format) (s : Slice) → bytes_of_bits (layer_text f s) ≡ layer_payload f s
+pub text_is_payload : (f : Format) (s : Slice) → bytes_of_bits (padded (layer_bits f s)) ≡ layer_payload f s
 unfolding layer_payload
 text_is_payload f s = refl
 
-pub text_ends : (f : Format) (s : Slice) → EndsWell (bytes_of_bits (layer_text f s))
+pub text_ends : (f : Format) (s : Slice) → EndsWell (bytes_of_bits (padded (layer_bits f s)))
 text_ends f s = subst (λ (bytes : List ℕ). EndsWell bytes) (sym (text_is_payload f s)) (payload_ends f s)
 
 payload_long : (long : Bool) (payload : List ℕ) → length payload ≤ length (unit_bytes long 3 5 payload)
@@ -42,12 +43,12 @@ payload_long long payload = by (start_code long) (length-escape_least 0 payload)
     by code h = omega (arith, length-append code (101 ∷ escape 0 payload))
 
 -- a unit is no shorter than its payload
-pub unit_long : (c : Coding) (long : Bool) (s : Slice) → length (layer_text (format_of c) s) ≤ length (unit_of c long s)
+pub unit_long : (c : Coding) (long : Bool) (s : Slice) → length (padded (layer_bits (format_for c) s)) ≤ length (unit_of c long s)
 unit_long c long s =
-    let a = length-bits_of_bytes (unit_bytes long 3 5 (layer_payload (format_of c) s)) in
-    let b = payload_long long (layer_payload (format_of c) s) in
-    let d = length-bytes_of_bits (layer_text (format_of c) s) (text_whole (format_of c) s) in
-    let e = ap (λ (bytes : List ℕ). length bytes) (text_is_payload (format_of c) s) in
+    let a = length-bits_of_bytes (unit_bytes long 3 5 (layer_payload (format_for c) s)) in
+    let b = payload_long long (layer_payload (format_for c) s) in
+    let d = length-bytes_of_bits (padded (layer_bits (format_for c) s)) (text_whole (layer_bits (format_for c) s)) in
+    let e = ap (λ (bytes : List ℕ). length bytes) (text_is_payload (format_for c) s) in
     omega arith
 
 -- ---- one slice more
@@ -61,7 +62,7 @@ unfolding slices_built
 more_built across [] s p = refl
 more_built across (x ∷ ss) s p = more_built across ss s (slice_built across x.head.first_mb x.records p)
 
-more_records : (ss : List Slice) (s : Slice) → all_records (ss ++ s ∷ []) ≡ all_records ss ++ s.records
+pub more_records : (ss : List Slice) (s : Slice) → all_records (ss ++ s ∷ []) ≡ all_records ss ++ s.records
 more_records ss s = flat_map-append (λ (x : Slice). x.records) ss (s ∷ []) ∙ ap (λ (t : List MbRecord). all_records ss ++ t) (nothing s.records)
   where
     nothing : (t : List MbRecord) → t ++ [] ≡ t
@@ -115,9 +116,9 @@ units_more c source long next k old start was e n w =
       append_assoc start.text (units_to c source long k) (unit_of c next (slice_at c source k old))
       ∙ ap (λ (t : List Bool). start.text ++ t) (
         ap₂ (λ (b : Bool) (p : Planes). units_to c source long k ++ unit_of c b (slice_at c source k p)) n e
-        ∙ sym (bits_of_bytes-append (units_of long (format_of c) (slices_to c source k)) (unit_bytes (still_long long (slices_to c source k)) 3 5 (layer_payload (format_of c) (slice_at c source k built))))
-        ∙ ap (λ (t : List ℕ). bits_of_bytes t) (sym (more_units long (format_of c) (slices_to c source k) (slice_at c source k built)))
-        ∙ ap (λ (ss : List Slice). bits_of_bytes (units_of long (format_of c) ss)) (sym (more_slices c source k))))
+        ∙ sym (bits_of_bytes-append (units_of long (format_for c) (slices_to c source k)) (unit_bytes (still_long long (slices_to c source k)) 3 5 (layer_payload (format_for c) (slice_at c source k built))))
+        ∙ ap (λ (t : List ℕ). bits_of_bytes t) (sym (more_units long (format_for c) (slices_to c source k) (slice_at c source k built)))
+        ∙ ap (λ (ss : List Slice). bits_of_bytes (units_of long (format_for c) ss)) (sym (more_slices c source k))))
   where
     built : Planes
     built = slices_built c.across (slices_to c source k) (blank_planes c.across c.down)
@@ -137,10 +138,10 @@ longer_by c source long k (suc n) =
     let e : k + suc n ≡ k + n + 1 = omega arith in
     let h = ap (λ (m : ℕ). length (units_to c source long m)) e in
     let g = longer_by c source long k n in
-    let more = ap (λ (ss : List Slice). length (bits_of_bytes (units_of long (format_of c) ss))) (more_slices c source (k + n)) in
+    let more = ap (λ (ss : List Slice). length (bits_of_bytes (units_of long (format_for c) ss))) (more_slices c source (k + n)) in
     let s : Slice = slice_at c source (k + n) (slices_built c.across (slices_to c source (k + n)) (blank_planes c.across c.down)) in
-    let joined = ap (λ (t : List ℕ). length (bits_of_bytes t)) (more_units long (format_of c) (slices_to c source (k + n)) s) in
-    let parts = ap (λ (t : List Bool). length t) (bits_of_bytes-append (units_of long (format_of c) (slices_to c source (k + n))) (unit_bytes (still_long long (slices_to c source (k + n))) 3 5 (layer_payload (format_of c) s))) in
+    let joined = ap (λ (t : List ℕ). length (bits_of_bytes t)) (more_units long (format_for c) (slices_to c source (k + n)) s) in
+    let parts = ap (λ (t : List Bool). length t) (bits_of_bytes-append (units_of long (format_for c) (slices_to c source (k + n))) (unit_bytes (still_long long (slices_to c source (k + n))) 3 5 (layer_payload (format_for c) s))) in
     let sum = length-append (units_to c source long (k + n)) (unit_of c (still_long long (slices_to c source (k + n))) s) in
     omega arith
 
@@ -149,22 +150,7 @@ units_longer c source long k n h = let e : k + (n - k) ≡ n = omega arith in su
 
 -- units are whole bytes
 pub units_whole : (c : Coding) (source : Planes) (long : Bool) (k : ℕ) → length (units_to c source long k) % 8 ≡ 0
-units_whole c source long k = ap (λ (n : ℕ). n % 8) (length-bits_of_bytes (units_of long (format_of c) (slices_to c source k))) ∙ eights (length (units_of long (format_of c) (slices_to c source k)))
+units_whole c source long k = ap (λ (n : ℕ). n % 8) (length-bits_of_bytes (units_of long (format_for c) (slices_to c source k))) ∙ eights (length (units_of long (format_for c) (slices_to c source k)))
   where
     eights : (n : ℕ) → (8 * n) % 8 ≡ 0
     eights n = omega arith
-
--- ---- a slice of rows
-
--- where the rows are those of slice k, the slice is that of the picture
-pub same_slice : (c : Coding) (source : Planes) (k : ℕ) (before : Planes) (f : Format) (h : SliceHead) (first end : ℕ) → f ≡ format_of c → first ≡ first_row (settled_of c) k → end ≡ first_row (settled_of c) (k + 1)
-    → h ≡ idr_head (first * c.across) 0 c.idr_id 0 c.qp true → c.idr_id ≤ 1 → slice_of f h first end source before ≡ slice_at c source k before
-unfolding idr_head records_of
-same_slice c source k before f h first end e a b head small =
-    ap (λ (g : Format). slice_of g h first end source before) e
-    ∙ ap (λ (x : SliceHead). slice_of (format_of c) x first end source before) head
-    ∙ ap₂ (λ (m n : ℕ). slice_of (format_of c) (idr_head (m * c.across) 0 c.idr_id 0 c.qp true) m n source before) a b
-    ∙ ap (λ (i : ℕ). let s : Slice = record { head = idr_head (first_of (settled_of c) k) 0 i 0 c.qp true; records = records_of (settled_of c) source k before } in s) parity
-  where
-    parity : c.idr_id ≡ c.idr_id % 2
-    parity = omega (arith, small)

@@ -1,3 +1,6 @@
+pub mod Plans
+pub mod Left
 pub mod Planned
 pub mod Slices
 pub mod Pictures
+pub mod Coders

@@ -1,8 +1,6 @@
 -- Pictures that are written slice by slice.
-use Rattle.std.specs.Prelude.{ℕ, Bool, true, false, List, [], ◌∷◌, ◌++◌, length, take, Result, ◌≡◌, ◌≤◌, ◌<◌, ◌+◌, ◌*◌}
-use Rattle.std.specs.Result.{MatchResult}
+use Rattle.std.specs.Prelude.{ℕ, Bool, true, false, List, [], ◌∷◌, ◌++◌, length, take, ◌≡◌, ◌≤◌, ◌<◌, ◌+◌, ◌*◌}
 use Rattle.enc_tables.specs.declared.records.MbRecord.{MbRecord}
-use Rattle.bit_strings.specs.BitText.{BitText}
 use Rattle.picture_planes.specs.declared.picture.Picture.{Picture}
 use Rattle.spec_bits.specs.Bits.{bits_of_bytes}
 use Rattle.spec_bits.specs.Units.{unit_bytes}
@@ -18,8 +16,8 @@ abbrev pub settled_of : Coding → Settled
 settled_of c = record { across = c.across; down = c.down; qp = c.qp; slices = c.slices; t8x8 = c.t8x8 }
 
 -- what the parameter sets tell its slices
-abbrev pub format_of : Coding → Format
-format_of c = record { across = c.across; total = c.across * c.down; t8x8 = c.t8x8 }
+abbrev pub format_for : Coding → Format
+format_for c = record { across = c.across; total = c.across * c.down; t8x8 = c.t8x8 }
 
 -- a picture of this size can be coded so
 pub record IsCoding (c : Coding) (p : Picture) : Type 0 where
@@ -38,7 +36,7 @@ slice_at c source k before = record { head = head_of (settled_of c) c.idr_id k; 
 
 -- the bits of the unit of a slice
 abbrev pub unit_of : Coding → Bool → Slice → List Bool
-unit_of c long s = bits_of_bytes (unit_bytes long 3 5 (layer_payload (format_of c) s))
+unit_of c long s = bits_of_bytes (unit_bytes long 3 5 (layer_payload (format_for c) s))
 
 -- slice k was coded into the picture and the records, whose earlier ones stay
 pub record SliceCoded (c : Coding) (s : Slice) (k : ℕ) (old new : Planes) (was now : List MbRecord) : Type 0 where
@@ -60,4 +58,4 @@ pub record SlicesCoded (c : Coding) (source : Planes) (n : ℕ) (now : Planes) (
 
 -- the units of the first n slices stand behind the old bits
 abbrev pub units_to : Coding → Planes → Bool → ℕ → List Bool
-units_to c source long n = bits_of_bytes (units_of long (format_of c) (slices_to c source n))
+units_to c source long n = bits_of_bytes (units_of long (format_for c) (slices_to c source n))

@@ -2,22 +2,21 @@
 use Rattle.std.specs.Prelude.{ℕ, Bool, List, get_or, vec_len, ◌≡◌, ◌≤◌, ◌<◌, ◌+◌, ◌*◌, ◌/◌}
 use Rattle.std.specs.List.{All}
 use Rattle.enc_tables.specs.declared.plans.RowPlan.{RowPlan}
-use Rattle.enc_tables.specs.Choice.{SmallCosts}
 use Rattle.spec_film.specs.Films.{Planes}
-use Rattle.spec_choice.specs.IntraPlans.{intra_plans}
+use Rattle.picture_coder.specs.declared.place.Place.{Place}
+use Rattle.picture_coder.specs.Plans.{IsPlanned}
 
 -- the first row of slice k of a picture of so many slices and rows of macroblocks
 abbrev pub row_at : ℕ → ℕ → ℕ → ℕ
 row_at slices down k = k * down / slices
 
--- the plans of row r of a slice that begins with row `first`
-pub record IsPlanned (across first : ℕ) (t8x8 : Bool) (source : Planes) (r : ℕ) (plan : RowPlan) : Type 0 where
-  pub plans : plan.mbs.items ≡ intra_plans across first t8x8 source r
-  pub small : All SmallCosts plan.mbs.items
+-- where a slice stands that begins with row `first`
+abbrev pub place_at : ℕ → ℕ → Bool → Place
+place_at across first t8x8 = record { across = across; row = first; t8x8 = t8x8 }
 
 -- rows `first` to `end` - 1 are planned, as rows of a slice that begins with row `first`
 abbrev pub RowsPlanned : ℕ → ℕ → ℕ → Bool → Planes → List RowPlan → Type 0
-RowsPlanned across first end t8x8 source plans = (r : ℕ) (d : RowPlan) → first ≤ r → r < end → IsPlanned across first t8x8 source r (get_or plans r d)
+RowsPlanned across first end t8x8 source plans = (r : ℕ) (d : RowPlan) → first ≤ r → r < end → IsPlanned (place_at across first t8x8) source r (get_or plans r d)
 
 -- the first n of so many slices are planned
 abbrev pub SlicesPlanned : ℕ → ℕ → ℕ → Bool → Planes → ℕ → List RowPlan → Type 0

@@ -1,8 +1,18 @@
-//! Pictures of intra macroblocks, coded (ITU-T H.264, IDR pictures): the rows of their slices, and the plans of all rows.
+//! Pictures of intra macroblocks, planned, coded and filtered, slice by slice (ITU-T H.264, IDR pictures).
 #![tactic(auto)]
 
+mod coder;
+mod coding;
+mod job;
+mod laws;
+mod memory;
+mod picture;
+mod place;
 mod plans;
 mod rows;
+mod slice;
+mod slices;
 
-pub use plans::plan_picture;
-pub use rows::first_row;
+pub use coder::PictureCoder;
+pub use job::Job;
+pub use laws::units_make_streams;

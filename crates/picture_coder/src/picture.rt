@@ -1,5 +1,5 @@
 // Whole pictures: blank, coded slice by slice, and filtered.
-ghost use Rattle.std.specs.Prelude.{◌≡◌, ◌≤◌, ◌<◌, ◌+◌, ◌*◌, ◌/◌, ◌%◌, ◌==◌, ℕ, [], length, replicate, IfOk};
+ghost use Rattle.std.specs.Prelude.{◌≡◌, ◌≤◌, ◌+◌, ◌*◌, ◌%◌, ◌==◌, ℕ, [], length, replicate, OnOk};
 ghost use Rattle.picture_planes.specs.Samples.{SameShape, samples_of};
 ghost use Rattle.picture_planes.specs.Pictures.{planes_of, SameShapes};
 ghost use Rattle.bit_strings.specs.BitText.{Appends};
@@ -8,7 +8,7 @@ ghost use Rattle.picture_coder.specs.Planned.{SlicesPlanned};
 ghost use Rattle.picture_coder.specs.Pictures.{IsCoding, slices_to, units_to};
 
 use crate::coding::Coding;
-use crate::slices::{SliceCoder, code_slices};
+use crate::slices::code_slices;
 use bit_strings::{BitBuf, Full};
 use deblock::deblock_picture;
 use enc_tables::{MbRecord, RowPlan};
@@ -36,8 +36,7 @@ fn clear(picture: &mut Picture)
 /// empty. The picture is then the one that a decoder shows, filtered across slices.
 ///
 /// `Full` comes exactly where the units don't fit the room of `out`, which is then as before.
-pub fn code_picture<S: SliceCoder>(
-    coder: &S,
+pub fn code_picture(
     coding: &Coding,
     source: &Picture,
     plans: &[RowPlan],
@@ -47,25 +46,22 @@ pub fn code_picture<S: SliceCoder>(
     out: &mut BitBuf,
 ) -> (Result<(), Full>, BitBuf)
     requires coding { IsCoding coding.now picture.old }
-    requires width { source.now.y.width ≡ picture.old.y.width }
-    requires height { source.now.y.height ≡ picture.old.y.height }
+    requires alike { SameShapes picture.old source.now }
     requires plans { SlicesPlanned coding.now.across coding.now.down coding.now.slices coding.now.t8x8 (planes_of source.now) coding.now.slices plans.now }
     requires plan_count { length plans.now ≡ coding.now.down }
     requires records { length records.old ≡ coding.now.down * coding.now.across }
     requires empty { payload.text ≡ [] }
     requires room { out.old.room ≤ length out.old.text + payload.room }
     requires whole { length out.old.text % 8 ≡ 0 }
-    ensures sizes { SameShapes picture.old picture.new }
+    ensures shapes { SameShapes picture.old picture.new }
     ensures count { length records.new ≡ length records.old }
     ensures payload { result.1 ≡ payload }
     ensures units { Appends out.old out.new (units_to coding.now (planes_of source.now) (length out.old.text == 0) coding.now.slices) result.0 }
-    ensures picture { IfOk result.0 (λ _. planes_of picture.new ≡ picture_of coding.now.across coding.now.down (slices_to coding.now (planes_of source.now) coding.now.slices)) }
+    ensures picture { OnOk result.0 (planes_of picture.new ≡ picture_of coding.now.across coding.now.down (slices_to coding.now (planes_of source.now) coding.now.slices)) }
 {
     let start = out.len();
     clear(picture);
-    let (done, payload) = code_slices(
-        coder, coding, source, plans, picture, records, payload, out,
-    );
+    let (done, payload) = code_slices(coding, source, plans, picture, records, payload, out);
     if done.is_err() {
         out.cut(start);
         return (Err(Full), payload);

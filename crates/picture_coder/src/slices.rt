@@ -1,6 +1,5 @@
 // The slices of a picture, coded one after another, and their units.
-ghost use Rattle.std.specs.Prelude.{◌≡◌, ◌≤◌, ◌<◌, ◌+◌, ◌-◌, ◌*◌, ◌/◌, ◌%◌, ◌==◌, ℕ, true, [], length, get_or, IfOk};
-ghost use Rattle.std.specs.Result.{MatchResult};
+ghost use Rattle.std.specs.Prelude.{◌≡◌, ◌≤◌, ◌<◌, ◌+◌, ◌*◌, ◌%◌, ◌==◌, true, [], length, OnOk};
 ghost use Rattle.enc_tables.specs.declared.plans.RowPlan.{RowPlan};
 ghost use Rattle.picture_planes.specs.Pictures.{planes_of, SameShapes};
 ghost use Rattle.bit_strings.specs.BitText.{Appends};
@@ -8,53 +7,20 @@ ghost use Rattle.nal_writer.specs.Runs.{Grows};
 ghost use Rattle.spec_bits.specs.Bits.{bits_of_bytes, bytes_of_bits};
 ghost use Rattle.spec_bits.specs.Units.{unit_bytes, EndsWell};
 ghost use Rattle.spec_reading.specs.HeadReaders.{idr_head};
+ghost use Rattle.spec_slice_layer.specs.Layer.{layer_bits};
 ghost use Rattle.spec_encoding.specs.Frames.{blank_planes};
-ghost use Rattle.picture_coder.specs.Planned.{IsPlanned, SlicesPlanned};
-ghost use Rattle.picture_coder.specs.Slices.{format_in, slice_of, layer_text, HasText, IsCoded, IsTooLong};
-ghost use Rattle.picture_coder.specs.Pictures.{format_of, IsCoding, slice_at, unit_of, SliceCoded, SlicesCoded, units_to};
+ghost use Rattle.picture_coder.specs.Left.{Leaves};
+ghost use Rattle.picture_coder.specs.Planned.{SlicesPlanned};
+ghost use Rattle.picture_coder.specs.Pictures.{format_for, IsCoding, slice_at, unit_of, SliceCoded, SlicesCoded, units_to};
 
 use crate::coding::Coding;
 use crate::rows::first_row;
+use crate::slice::code_slice;
 use bit_strings::{BitBuf, Full};
 use enc_tables::{MbRecord, RowPlan, SliceKind};
 use nal_writer::unit;
 use picture_planes::Picture;
 use spec_bits::SliceHead;
-
-/// Who codes a slice of an IDR picture: rows of macroblocks, of which it makes the records, the samples before the filter, and the
-/// payload of the slice's unit.
-pub trait SliceCoder {
-    /// Codes rows `rows.0` to `rows.1` - 1 of the source as one slice, by their plans. `records` has a place for each of their
-    /// macroblocks; `buf` is empty, and holds then the bits of the payload, with zeros to the byte.
-    ///
-    /// `Full` comes exactly where the bits pass the room of the buffer, which is then empty.
-    fn code_slice(
-        &self,
-        picture: &mut Picture,
-        source: &Picture,
-        plans: &[RowPlan],
-        head: &SliceHead,
-        rows: (u32, u32),
-        t8x8: bool,
-        records: &mut [MbRecord],
-        buf: BitBuf,
-    ) -> (Result<(), Full>, BitBuf)
-        requires width { (picture.old.y.width % 16 ≡ 0) × (source.now.y.width ≡ picture.old.y.width) }
-        requires height { (picture.old.y.height % 16 ≡ 0) × (source.now.y.height ≡ picture.old.y.height) }
-        requires rows { rows.0 < rows.1 }
-        requires inside { 16 * rows.1 ≤ picture.old.y.height }
-        requires head { head.now ≡ idr_head (rows.0 * (picture.old.y.width / 16)) 0 head.now.idr_id 0 head.now.qp true }
-        requires idr_id { head.now.idr_id ≤ 1 }
-        requires qp { head.now.qp ≤ 51 }
-        requires plans { (r : ℕ) (d : RowPlan) → rows.0 + r < rows.1 → IsPlanned (picture.old.y.width / 16) rows.0 t8x8 (planes_of source.now) (rows.0 + r) (get_or plans.now r d) }
-        requires plan_count { length plans.now ≡ rows.1 - rows.0 }
-        requires records { length records.old ≡ (rows.1 - rows.0) * (picture.old.y.width / 16) }
-        requires empty { buf.text ≡ [] }
-        ensures sizes { SameShapes picture.old picture.new }
-        ensures coded { MatchResult result.0
-            (λ _. IsCoded (format_in picture.old t8x8) (slice_of (format_in picture.old t8x8) head.now rows.0 rows.1 (planes_of source.now) (planes_of picture.old)) (planes_of picture.old) (planes_of picture.new) records.new buf result.1)
-            (λ _. IsTooLong (format_in picture.old t8x8) (slice_of (format_in picture.old t8x8) head.now rows.0 rows.1 (planes_of source.now) (planes_of picture.old)) buf result.1) };
-}
 
 // nal_ref_idc and nal_unit_type of the slices (ITU-T H.264, table 7-1).
 const REFERENCE: u8 = 3;
@@ -66,9 +32,7 @@ const IDR_SLICE: u8 = 5;
 fn head_for(coding: &Coding, first: u32) -> SliceHead
     requires first { first ≤ 144 }
     requires across { coding.now.across ≤ 256 }
-    ensures value { result ≡ idr_head (first * coding.now.across) 0 coding.now.idr_id 0 coding.now.qp true }
-    ensures idr_id { result.idr_id ≡ coding.now.idr_id }
-    ensures qp { result.qp ≡ coding.now.qp }
+    ensures { result ≡ idr_head (first * coding.now.across) 0 coding.now.idr_id 0 coding.now.qp true }
 {
     SliceHead {
         first_mb: first * coding.across,
@@ -100,8 +64,7 @@ fn append_unit(out: &mut BitBuf, payload: BitBuf, long: bool) -> (Result<(), Ful
 }
 
 // Codes slice `slice` behind those before it.
-fn code_rows<S: SliceCoder>(
-    coder: &S,
+fn code_rows(
     coding: &Coding,
     slice: u32,
     source: &Picture,
@@ -112,25 +75,22 @@ fn code_rows<S: SliceCoder>(
 ) -> (Result<(), Full>, BitBuf)
     requires coding { IsCoding coding.now picture.old }
     requires slice { slice < coding.now.slices }
-    requires width { source.now.y.width ≡ picture.old.y.width }
-    requires height { source.now.y.height ≡ picture.old.y.height }
+    requires alike { SameShapes picture.old source.now }
     requires plans { SlicesPlanned coding.now.across coding.now.down coding.now.slices coding.now.t8x8 (planes_of source.now) coding.now.slices plans.now }
     requires plan_count { length plans.now ≡ coding.now.down }
     requires records { length records.old ≡ coding.now.down * coding.now.across }
     requires empty { payload.text ≡ [] }
-    ensures sizes { SameShapes picture.old picture.new }
+    ensures shapes { SameShapes picture.old picture.new }
     ensures count { length records.new ≡ length records.old }
-    ensures coded { MatchResult result.0
-        (λ _. SliceCoded coding.now (slice_at coding.now (planes_of source.now) slice (planes_of picture.old)) slice (planes_of picture.old) (planes_of picture.new) records.old records.new
-            × HasText (format_of coding.now) (slice_at coding.now (planes_of source.now) slice (planes_of picture.old)) payload result.1)
-        (λ _. IsTooLong (format_of coding.now) (slice_at coding.now (planes_of source.now) slice (planes_of picture.old)) payload result.1) }
+    ensures payload { Leaves result.0 payload.room payload.made (layer_bits (format_for coding.now) (slice_at coding.now (planes_of source.now) slice (planes_of picture.old))) result.1 }
+    ensures coded { OnOk result.0 (SliceCoded coding.now (slice_at coding.now (planes_of source.now) slice (planes_of picture.old)) slice (planes_of picture.old) (planes_of picture.new) records.old records.new) }
 {
     let first = first_row(slice, coding.slices, coding.down);
     let end = first_row(slice + 1, coding.slices, coding.down);
     let head = head_for(coding, first);
     let from = (first * coding.across) as usize;
     let to = (end * coding.across) as usize;
-    coder.code_slice(
+    code_slice(
         picture,
         source,
         &plans[first as usize..end as usize],
@@ -143,8 +103,7 @@ fn code_rows<S: SliceCoder>(
 }
 
 // Codes slice `slice` behind those before it, and appends its unit. On `Full` nothing is appended.
-fn code_unit<S: SliceCoder>(
-    coder: &S,
+fn code_unit(
     coding: &Coding,
     slice: u32,
     source: &Picture,
@@ -157,33 +116,29 @@ fn code_unit<S: SliceCoder>(
 ) -> (Result<(), Full>, BitBuf)
     requires coding { IsCoding coding.now picture.old }
     requires slice { slice < coding.now.slices }
-    requires width { source.now.y.width ≡ picture.old.y.width }
-    requires height { source.now.y.height ≡ picture.old.y.height }
+    requires alike { SameShapes picture.old source.now }
     requires plans { SlicesPlanned coding.now.across coding.now.down coding.now.slices coding.now.t8x8 (planes_of source.now) coding.now.slices plans.now }
     requires plan_count { length plans.now ≡ coding.now.down }
     requires records { length records.old ≡ coding.now.down * coding.now.across }
     requires empty { payload.text ≡ [] }
     requires room { out.old.room ≤ length out.old.text + payload.room }
     requires whole { length out.old.text % 8 ≡ 0 }
-    ensures sizes { SameShapes picture.old picture.new }
+    ensures shapes { SameShapes picture.old picture.new }
     ensures count { length records.new ≡ length records.old }
-    ensures coded { IfOk result.0 (λ _. SliceCoded coding.now (slice_at coding.now (planes_of source.now) slice (planes_of picture.old)) slice (planes_of picture.old) (planes_of picture.new) records.old records.new) }
+    ensures coded { OnOk result.0 (SliceCoded coding.now (slice_at coding.now (planes_of source.now) slice (planes_of picture.old)) slice (planes_of picture.old) (planes_of picture.new) records.old records.new) }
     ensures payload { result.1 ≡ payload }
     ensures unit { Appends out.old out.new (unit_of coding.now long (slice_at coding.now (planes_of source.now) slice (planes_of picture.old))) result.0 }
 {
-    let (done, coded) = code_rows(
-        coder, coding, slice, source, plans, picture, records, payload,
-    );
+    let (done, payload) = code_rows(coding, slice, source, plans, picture, records, payload);
     if done.is_err() {
-        return (Err(Full), coded);
+        return (Err(Full), payload);
     }
-    append_unit(out, coded, long)
+    append_unit(out, payload, long)
 }
 
 /// Codes all slices, one after another, and appends their units; the first one has a start code of four bytes where `out` was empty.
 /// On `Full` some of the units may be there.
-pub fn code_slices<S: SliceCoder>(
-    coder: &S,
+pub fn code_slices(
     coding: &Coding,
     source: &Picture,
     plans: &[RowPlan],
@@ -193,8 +148,7 @@ pub fn code_slices<S: SliceCoder>(
     out: &mut BitBuf,
 ) -> (Result<(), Full>, BitBuf)
     requires coding { IsCoding coding.now picture.old }
-    requires width { source.now.y.width ≡ picture.old.y.width }
-    requires height { source.now.y.height ≡ picture.old.y.height }
+    requires alike { SameShapes picture.old source.now }
     requires blank { planes_of picture.old ≡ blank_planes coding.now.across coding.now.down }
     requires plans { SlicesPlanned coding.now.across coding.now.down coding.now.slices coding.now.t8x8 (planes_of source.now) coding.now.slices plans.now }
     requires plan_count { length plans.now ≡ coding.now.down }
@@ -202,9 +156,9 @@ pub fn code_slices<S: SliceCoder>(
     requires empty { payload.text ≡ [] }
     requires room { out.old.room ≤ length out.old.text + payload.room }
     requires whole { length out.old.text % 8 ≡ 0 }
-    ensures sizes { SameShapes picture.old picture.new }
+    ensures shapes { SameShapes picture.old picture.new }
     ensures count { length records.new ≡ length records.old }
-    ensures coded { IfOk result.0 (λ _. SlicesCoded coding.now (planes_of source.now) coding.now.slices (planes_of picture.new) records.new) }
+    ensures coded { OnOk result.0 (SlicesCoded coding.now (planes_of source.now) coding.now.slices (planes_of picture.new) records.new) }
     ensures payload { result.1 ≡ payload }
     ensures units { Grows out.old out.new (units_to coding.now (planes_of source.now) (length out.old.text == 0) coding.now.slices) result.0 }
 {
@@ -212,7 +166,7 @@ pub fn code_slices<S: SliceCoder>(
     let mut long = out.len() == 0;
     for slice in 0..coding.slices {
         let (done, emptied) = code_unit(
-            coder, coding, slice, source, plans, picture, records, payload, long, out,
+            coding, slice, source, plans, picture, records, payload, long, out,
         );
         if done.is_err() {
             return (Err(Full), emptied);

@@ -14,15 +14,17 @@ loop-row-preserved g c =
     c.loop-row.invariant.rows c.loop-row.row c.index-plans-row.result inside in
     let plans : c.plan_row.new.out.mbs.items ≡ intra_plans (c.args.source.now.y.width / 16) c.args.first c.args.t8x8 (planes_of c.args.source.now) c.loop-row.row =
     c.plan_row.ensures.plans ∙ ap (λ (n : ℕ). intra_plans n c.args.first c.args.t8x8 (planes_of c.args.source.now) c.loop-row.row) wide in
+    let long : vec_len c.plan_row.new.out.mbs ≡ c.args.source.now.y.width / 16 =
+    same_width (c.args.source.now.y.width / 16) c.args.first c.args.t8x8 (planes_of c.args.source.now) c.loop-row.row c.plan_row.new.out plans in
     record {
       long = length-set c.loop-row.plans c.loop-row.row c.plan_row.new.out ∙ c.loop-row.invariant.long;
       rows =
           All-set (λ (p : RowPlan). vec_len p.mbs ≡ c.args.source.now.y.width / 16) c.loop-row.plans c.loop-row.row c.plan_row.new.out
-          (same_width (c.args.source.now.y.width / 16) c.args.first c.args.t8x8 (planes_of c.args.source.now) c.loop-row.row c.plan_row.new.out plans)
+          long
           c.loop-row.invariant.rows;
       planned =
           row_more (c.args.source.now.y.width / 16) c.args.first c.loop-row.row c.args.t8x8 (planes_of c.args.source.now) c.loop-row.plans c.plan_row.new.out inside c.loop-row.invariant.planned
-          (record { plans = plans; small = c.plan_row.ensures.small });
+          (record { long = long; plans = plans; small = c.plan_row.ensures.small });
       above = λ r d h.
           get_or-set_other c.loop-row.plans c.loop-row.row r c.plan_row.new.out d (omega (arith, h, c.loop-row.auto.row))
           ∙ c.loop-row.invariant.above r d h;

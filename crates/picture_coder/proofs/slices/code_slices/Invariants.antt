@@ -5,7 +5,7 @@ use Rattle.picture_coder.proofs.slices.code_slices.Given as goal
 
 abbrev pub invariant-loop-slice : goal.invariant-loop-slice
 invariant-loop-slice g l = record {
-  sizes : SameShapes l.initial.picture l.picture;
+  shapes : SameShapes l.initial.picture l.picture;
   count : length l.records ≡ length l.initial.records;
   coded : SlicesCoded l.coding (planes_of l.source) l.slice (planes_of l.picture) l.records;
   payload : l.payload ≡ l.initial.payload;
