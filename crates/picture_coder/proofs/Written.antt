@@ -1,8 +1,10 @@
 -- Slices written one behind another.
 use Rattle.std.proofs.Common.{◌≡◌, ◌≤◌, ◌<◌, ◌+◌, ◌-◌, ◌*◌, ◌/◌, ◌%◌, ◌++◌, ◌==◌, ℕ, zero, suc, Bool, true, false, List, [], ◌∷◌, length, take, drop, refl, sym, ap, ap₂, subst, ◌∙◌, arith, append_assoc, append-nil, length-append}
-use Rattle.std.proofs.lemmas.List.{flat_map-append, length-take, length-drop}
+use Rattle.std.proofs.lemmas.List.{length-take, length-drop}
+use Rattle.std.proofs.lemmas.List.Concat.{flat_map-append}
 use Rattle.enc_tables.specs.declared.records.MbRecord.{MbRecord}
 use Rattle.bit_strings.specs.BitText.{BitText}
+use Rattle.nal_writer.specs.Runs.{IsLonger}
 use Rattle.spec_bits.specs.Bits.{bits_of_bytes, bytes_of_bits}
 use Rattle.spec_bits.specs.Golomb.{align_bits}
 use Rattle.spec_bits.specs.Units.{unit_bytes, escape, start_code, EndsWell}
@@ -154,3 +156,42 @@ units_whole c source long k = ap (λ (n : ℕ). n % 8) (length-bits_of_bytes (un
   where
     eights : (n : ℕ) → (8 * n) % 8 ≡ 0
     eights n = omega arith
+
+-- ---- the loop over slices
+
+-- no unit is there at first
+pub none_written : (c : Coding) (source : Planes) (long : Bool) (start : BitText) → start ≡ record start { text = start.text ++ units_to c source long 0 }
+unfolding slices_of units_of bits_of_bytes
+none_written c source long start = ap (λ (t : List Bool). record start { text = t }) (sym (append-nil start.text))
+
+pub long_first : (c : Coding) (source : Planes) (long : Bool) → long ≡ still_long long (slices_to c source 0)
+unfolding slices_of
+long_first c source long = refl
+
+-- the room ends in the unit of a slice
+pub stopped : (c : Coding) (source : Planes) (long next : Bool) (k : ℕ) (old : Planes) (start was new : BitText) → k < c.slices → old ≡ slices_built c.across (slices_to c source k) (blank_planes c.across c.down)
+    → next ≡ still_long long (slices_to c source k) → was ≡ record start { text = start.text ++ units_to c source long k }
+    → (was.room < length was.text + length (unit_of c next (slice_at c source k old))) × (new ≡ was)
+    → (start.room < length start.text + length (units_to c source long c.slices)) × IsLonger start new
+stopped c source long next k old start was new few e n w full =
+    let u : List Bool = unit_of c next (slice_at c source k old) in
+    let more = units_more c source long next k old start was e n w in
+    let sum = ap (λ (b : BitText). length b.text) more in
+    let left = length-append was.text u in
+    let right = length-append start.text (units_to c source long (k + 1)) in
+    let least = units_longer c source long (k + 1) c.slices (omega arith) in
+    let room = ap (λ (b : BitText). b.room) w in
+    (omega (arith, full.0, sum, left, right, least, room), record { bits = units_to c source long k; same = full.1 ∙ w })
+
+pub whole_still : (c : Coding) (source : Planes) (long : Bool) (k : ℕ) (start was : BitText) → was ≡ record start { text = start.text ++ units_to c source long k } → length start.text % 8 ≡ 0 → length was.text % 8 ≡ 0
+whole_still c source long k start was w whole =
+    let sum = ap (λ (b : BitText). length b.text) w in
+    let parts = length-append start.text (units_to c source long k) in
+    let units = units_whole c source long k in
+    omega (arith, sum, parts, units, whole)
+
+pub fits_more : (old new : BitText) (u : List Bool) → length old.text + length u ≤ old.room → new ≡ record old { text = old.text ++ u } → length new.text ≤ new.room
+fits_more old new u h e = subst (λ (b : BitText). length b.text ≤ b.room) (sym e) (by (length-append old.text u))
+  where
+    by : length (old.text ++ u) ≡ length old.text + length u → length (old.text ++ u) ≤ old.room
+    by s = omega (arith, s, h)

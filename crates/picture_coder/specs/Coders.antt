@@ -8,15 +8,14 @@ use Rattle.spec_encoding.specs.Coding.{Settled, coded_picture}
 use Rattle.picture_coder.specs.declared.coder.PictureCoder.{PictureCoder}
 use Rattle.picture_coder.specs.Planned.{SlicesPlanned}
 use Rattle.picture_coder.specs.Slices.{units_of}
+use Rattle.picture_coder.specs.Sizes.{HasSizes}
 
--- a coder of pictures of this size, with the margins that pictures have
+-- a coder of pictures of this size
 pub record IsMadeFor (c : PictureCoder) (width height slices : ℕ) : Type 0 where
   pub across : c.across ≡ (width + 15) / 16
   pub down : c.down ≡ (height + 15) / 16
   pub slices_are : c.slices ≡ slices
-  pub luma_margin : c.picture.y.pad ≡ 40
-  pub cb_margin : c.picture.cb.pad ≡ 20
-  pub cr_margin : c.picture.cr.pad ≡ 20
+  pub sizes : HasSizes width height c.picture
 
 -- all rows of a source are planned, each as a row of its slice
 abbrev pub HasPlans : PictureCoder → Bool → Planes → Type 0

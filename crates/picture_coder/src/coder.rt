@@ -4,6 +4,7 @@ ghost use Rattle.picture_coder.specs.Planned.{AreRows};
 
 use crate::coding::Coding;
 use crate::job::Job;
+use crate::memory::{blank_plans, blank_records};
 use crate::picture::code_picture;
 use crate::plans::plan_picture;
 use bit_strings::{BitBuf, Full};

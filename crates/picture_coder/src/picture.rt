@@ -1,8 +1,10 @@
 // Whole pictures: blank, coded slice by slice, and filtered.
-ghost use Rattle.std.specs.Prelude.{◌≡◌, ◌≤◌, ◌+◌, ◌*◌, ◌%◌, ◌==◌, ℕ, [], length, replicate, OnOk};
+ghost use Rattle.std.specs.Prelude.{◌≡◌, ◌≤◌, ◌+◌, ◌*◌, ◌/◌, ◌%◌, ◌==◌, ℕ, [], length, replicate, OnOk};
+ghost use Rattle.std.specs.List.{All};
 ghost use Rattle.picture_planes.specs.Samples.{SameShape, samples_of};
 ghost use Rattle.picture_planes.specs.Pictures.{planes_of, SameShapes};
 ghost use Rattle.bit_strings.specs.BitText.{Appends};
+ghost use Rattle.spec_filter.specs.Pictures.{picture_filtered};
 ghost use Rattle.spec_encoding.specs.Frames.{blank_planes, picture_of};
 ghost use Rattle.picture_coder.specs.Planned.{SlicesPlanned};
 ghost use Rattle.picture_coder.specs.Pictures.{IsCoding, slices_to, units_to};
@@ -30,6 +32,16 @@ fn clear(picture: &mut Picture)
     clear_plane(&mut picture.y);
     clear_plane(&mut picture.cb);
     clear_plane(&mut picture.cr);
+}
+
+// The loop filter, across slices. Intra macroblocks refer to no other picture.
+fn filter(picture: &mut Picture, records: &[MbRecord])
+    requires count { length records.now ≡ picture.old.y.width / 16 * (picture.old.y.height / 16) }
+    requires qps { All (λ r. r.qp ≤ 51) records.now }
+    ensures shapes { SameShapes picture.old picture.new }
+    ensures value { planes_of picture.new ≡ picture_filtered [] [] records.now picture.old.y.width (planes_of picture.old) }
+{
+    deblock_picture(picture, records, &[], &[]);
 }
 
 /// Codes the picture by its plans, and appends the units of its slices: the first one has a start code of four bytes where `out` was
@@ -66,6 +78,6 @@ pub fn code_picture(
         out.cut(start);
         return (Err(Full), payload);
     }
-    deblock_picture(picture, records, &[], &[]);
+    filter(picture, records);
     (Ok(()), payload)
 }

@@ -7,14 +7,14 @@ ghost use Rattle.nal_writer.specs.Runs.{Grows};
 ghost use Rattle.spec_bits.specs.Bits.{bits_of_bytes, bytes_of_bits};
 ghost use Rattle.spec_bits.specs.Units.{unit_bytes, EndsWell};
 ghost use Rattle.spec_reading.specs.HeadReaders.{idr_head};
-ghost use Rattle.spec_slice_layer.specs.Layer.{layer_bits};
+ghost use Rattle.spec_slice_layer.specs.Layer.{IsIdrHead, layer_bits};
 ghost use Rattle.spec_encoding.specs.Frames.{blank_planes};
 ghost use Rattle.picture_coder.specs.Left.{Leaves};
 ghost use Rattle.picture_coder.specs.Planned.{SlicesPlanned};
 ghost use Rattle.picture_coder.specs.Pictures.{format_for, IsCoding, slice_at, unit_of, SliceCoded, SlicesCoded, units_to};
 
 use crate::coding::Coding;
-use crate::rows::first_row;
+use crate::rows::{macroblocks_of, rows_of};
 use crate::slice::code_slice;
 use bit_strings::{BitBuf, Full};
 use enc_tables::{MbRecord, RowPlan, SliceKind};
@@ -32,7 +32,11 @@ const IDR_SLICE: u8 = 5;
 fn head_for(coding: &Coding, first: u32) -> SliceHead
     requires first { first ≤ 144 }
     requires across { coding.now.across ≤ 256 }
-    ensures { result ≡ idr_head (first * coding.now.across) 0 coding.now.idr_id 0 coding.now.qp true }
+    requires idr_id { coding.now.idr_id ≤ 1 }
+    requires qp { coding.now.qp ≤ 51 }
+    ensures value { result ≡ idr_head (first * coding.now.across) 0 coding.now.idr_id 0 coding.now.qp true }
+    ensures first { result.first_mb ≡ first * coding.now.across }
+    ensures fits { IsIdrHead result }
 {
     SliceHead {
         first_mb: first * coding.across,
@@ -85,17 +89,15 @@ fn code_rows(
     ensures payload { Leaves result.0 payload.room payload.made (layer_bits (format_for coding.now) (slice_at coding.now (planes_of source.now) slice (planes_of picture.old))) result.1 }
     ensures coded { OnOk result.0 (SliceCoded coding.now (slice_at coding.now (planes_of source.now) slice (planes_of picture.old)) slice (planes_of picture.old) (planes_of picture.new) records.old records.new) }
 {
-    let first = first_row(slice, coding.slices, coding.down);
-    let end = first_row(slice + 1, coding.slices, coding.down);
-    let head = head_for(coding, first);
-    let from = (first * coding.across) as usize;
-    let to = (end * coding.across) as usize;
+    let rows = rows_of(slice, coding.slices, coding.down);
+    let head = head_for(coding, rows.0);
+    let (from, to) = macroblocks_of(rows, coding.across);
     code_slice(
         picture,
         source,
-        &plans[first as usize..end as usize],
+        &plans[rows.0 as usize..rows.1 as usize],
         &head,
-        (first, end),
+        rows,
         coding.t8x8,
         &mut records[from..to],
         payload,

@@ -4,7 +4,7 @@ use Rattle.picture_coder.specs.Pictures.{SlicesCoded, slices_to, still_long, uni
 use Rattle.picture_coder.proofs.slices.code_slices.Given as goal
 
 abbrev pub invariant-loop-slice : goal.invariant-loop-slice
-invariant-loop-slice g l = record {
+invariant-loop-slice l = record {
   shapes : SameShapes l.initial.picture l.picture;
   count : length l.records ≡ length l.initial.records;
   coded : SlicesCoded l.coding (planes_of l.source) l.slice (planes_of l.picture) l.records;
