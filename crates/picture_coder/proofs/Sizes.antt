@@ -4,6 +4,7 @@ use Rattle.std.specs.Prelude.{Result, Ok, Err, IsErr, is_err, OnOk, OnErr}
 use Rattle.std.proofs.lemmas.Bool.{false≢true}
 use Rattle.picture_planes.specs.declared.plane.Plane.{Plane}
 use Rattle.picture_planes.specs.declared.picture.Picture.{Picture}
+use Rattle.picture_planes.specs.Clamped.{rounded}
 use Rattle.picture_planes.specs.Samples.{SameShape}
 use Rattle.picture_planes.specs.Pictures.{SameShapes}
 use Rattle.bit_strings.specs.BitText.{BitText, Appends}
@@ -34,11 +35,10 @@ if_full (Err e) old new more bad x = x
 -- ---- sizes
 
 pub sizes_agree : (width height : ℕ) (p q : Picture) → HasSizes width height p → HasSizes width height q → SameShapes p q
-sizes_agree width height p q a b = (
-  (b.luma.0 ∙ sym a.luma.0, b.luma.1.0 ∙ sym a.luma.1.0, b.luma.1.1 ∙ sym a.luma.1.1),
-  (b.cb.0 ∙ sym a.cb.0, b.cb.1.0 ∙ sym a.cb.1.0, b.cb.1.1 ∙ sym a.cb.1.1),
-  (b.cr.0 ∙ sym a.cr.0, b.cr.1.0 ∙ sym a.cr.1.0, b.cr.1.1 ∙ sym a.cr.1.1),
-)
+sizes_agree width height p q a b = (one p.y q.y (rounded width) (rounded height) 40 a.luma b.luma, one p.cb q.cb (rounded width / 2) (rounded height / 2) 20 a.cb b.cb, one p.cr q.cr (rounded width / 2) (rounded height / 2) 20 a.cr b.cr)
+  where
+    one : (p q : Plane) (w h m : ℕ) → (p.width ≡ w) × (p.height ≡ h) × (p.pad ≡ m) → (q.width ≡ w) × (q.height ≡ h) × (q.pad ≡ m) → SameShape p q
+    one p q w h m (a, b, c) (d, e, f) = (d ∙ sym a, e ∙ sym b, f ∙ sym c)
 
 shape_to : (a b c : Plane) → SameShape a b → SameShape a c → SameShape b c
 shape_to a b c (p, q, r) (s, t, u) = (s ∙ sym p, t ∙ sym q, u ∙ sym r)

@@ -46,10 +46,10 @@ pub between : (a b w : ℕ) → a ≤ b → (b - a) * w ≡ b * w - a * w
 between a b w h = let e = behind a b w h in omega arith
 
 -- so many records were lent
-pub lent : (a b w m : ℕ) (records : List MbRecord) → a ≤ b → b * w ≤ length records → m ≡ w → length (take (b * w - a * w) (drop (a * w) records)) ≡ (b - a) * m
-lent a b w m records h inside e =
-    let rest = length-drop (a * w) records in
-    length-take-le (b * w - a * w) (drop (a * w) records) (omega arith) ∙ sym (between a b w h) ∙ ap (λ (k : ℕ). (b - a) * k) (sym e)
+pub lent : (a b w m from to : ℕ) (records : List MbRecord) → from ≡ a * w → to ≡ b * w → a ≤ b → to ≤ length records → m ≡ w → length (take (to - from) (drop from records)) ≡ (b - a) * m
+lent a b w m from to records f g h inside e =
+    let rest = length-drop from records in
+    length-take-le (to - from) (drop from records) (omega arith) ∙ ap₂ (λ (x y : ℕ). y - x) f g ∙ sym (between a b w h) ∙ ap (λ (k : ℕ). (b - a) * k) (sym e)
 
 -- ---- the plans of a slice
 

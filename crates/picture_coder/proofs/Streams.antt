@@ -36,5 +36,5 @@ pub picture_is : (h : FilmHead) (s : Settings) (number : ℕ) (source : Planes)
 unfolding encoded_picture picture_units coded_with_payloads
 picture_is h s number source =
     ap (λ (bytes : List ℕ). unit_bytes true 3 7 (sequence_payload (sequence_of h)) ++ (unit_bytes true 3 8 (picture_payload true s.t8x8) ++ bytes)) (
-      sym (are_units (format_of (sequence_of h) s.t8x8) (coded_picture (settled h s) number source))
-      ∙ ap (λ (slices : List Slice). units_of false (format_of (sequence_of h) s.t8x8) slices) (sym (by_parity (settled h s) number source)))
+    sym (are_units (format_of (sequence_of h) s.t8x8) (coded_picture (settled h s) number source))
+    ∙ ap (λ (slices : List Slice). units_of false (format_of (sequence_of h) s.t8x8) slices) (sym (by_parity (settled h s) number source)))

@@ -115,12 +115,12 @@ pub units_more : (c : Coding) (source : Planes) (long next : Bool) (k : ℕ) (ol
 units_more c source long next k old start was e n w =
     ap (λ (b : BitText). record b { text = b.text ++ unit_of c next (slice_at c source k old) }) w
     ∙ ap (λ (t : List Bool). record start { text = t }) (
-      append_assoc start.text (units_to c source long k) (unit_of c next (slice_at c source k old))
-      ∙ ap (λ (t : List Bool). start.text ++ t) (
-        ap₂ (λ (b : Bool) (p : Planes). units_to c source long k ++ unit_of c b (slice_at c source k p)) n e
-        ∙ sym (bits_of_bytes-append (units_of long (format_for c) (slices_to c source k)) (unit_bytes (still_long long (slices_to c source k)) 3 5 (layer_payload (format_for c) (slice_at c source k built))))
-        ∙ ap (λ (t : List ℕ). bits_of_bytes t) (sym (more_units long (format_for c) (slices_to c source k) (slice_at c source k built)))
-        ∙ ap (λ (ss : List Slice). bits_of_bytes (units_of long (format_for c) ss)) (sym (more_slices c source k))))
+    append_assoc start.text (units_to c source long k) (unit_of c next (slice_at c source k old))
+    ∙ ap (λ (t : List Bool). start.text ++ t) (
+    ap₂ (λ (b : Bool) (p : Planes). units_to c source long k ++ unit_of c b (slice_at c source k p)) n e
+    ∙ sym (bits_of_bytes-append (units_of long (format_for c) (slices_to c source k)) (unit_bytes (still_long long (slices_to c source k)) 3 5 (layer_payload (format_for c) (slice_at c source k built))))
+    ∙ ap (λ (t : List ℕ). bits_of_bytes t) (sym (more_units long (format_for c) (slices_to c source k) (slice_at c source k built)))
+    ∙ ap (λ (ss : List Slice). bits_of_bytes (units_of long (format_for c) ss)) (sym (more_slices c source k))))
   where
     built : Planes
     built = slices_built c.across (slices_to c source k) (blank_planes c.across c.down)

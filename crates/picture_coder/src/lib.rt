@@ -16,3 +16,6 @@ mod slices;
 pub use coder::PictureCoder;
 pub use job::Job;
 pub use laws::units_make_streams;
+
+#[cfg(test)]
+mod tests;

@@ -18,20 +18,21 @@ code_slice-requires-clause-planned c =
 pub code_slice-requires-clause-records : goal.code_slice-requires-clause-records
 code_slice-requires-clause-records c =
     let inside = c.macroblocks_of-from.ensures.within c.args.coding.now.down c.rows_of-rows.ensures.within in
-    ap₂ (λ (m n : ℕ). length (take (n - m) (drop m c.args.records.now))) c.macroblocks_of-from.ensures.from c.macroblocks_of-from.ensures.to
-    ∙ lent c.rows_of-rows.result.0 c.rows_of-rows.result.1 c.args.coding.now.across (c.args.picture.now.y.width / 16) c.args.records.now (omega (arith, c.rows_of-rows.ensures.some))
-    (omega (arith, inside, c.macroblocks_of-from.ensures.to, c.requires.records)) (sixteenth c.args.picture.now.y.width c.args.coding.now.across c.requires.coding.wide)
+    lent c.rows_of-rows.result.0 c.rows_of-rows.result.1 c.args.coding.now.across (c.args.picture.now.y.width / 16) c.macroblocks_of-from.result.0 c.macroblocks_of-from.result.1 c.args.records.now c.macroblocks_of-from.ensures.from c.macroblocks_of-from.ensures.to
+    (omega (arith, c.rows_of-rows.ensures.some)) (omega (arith, inside, c.requires.records)) (sixteenth c.args.picture.now.y.width c.args.coding.now.across c.requires.coding.wide)
 
 pub returns-clause-payload : goal.returns-clause-payload
 returns-clause-payload c =
     let n : ℕ = length (take (c.macroblocks_of-from.result.1 - c.macroblocks_of-from.result.0) (drop c.macroblocks_of-from.result.0 c.args.records.now)) in
+    let inside = c.macroblocks_of-from.ensures.within c.args.coding.now.down c.rows_of-rows.ensures.within in
     let given : IsGiven c.args.coding.now c.args.picture.now c.args.slice c.rows_of-rows.result.0 c.rows_of-rows.result.1 n c.head_for-head.result = record {
       coding = c.requires.coding;
       first_is = c.rows_of-rows.ensures.first;
       end_is = c.rows_of-rows.ensures.end;
       order = omega (arith, c.rows_of-rows.ensures.some);
       head = c.head_for-head.ensures.value;
-      count = code_slice-requires-clause-records _;
+      count = lent c.rows_of-rows.result.0 c.rows_of-rows.result.1 c.args.coding.now.across (c.args.picture.now.y.width / 16) c.macroblocks_of-from.result.0 c.macroblocks_of-from.result.1 c.args.records.now c.macroblocks_of-from.ensures.from c.macroblocks_of-from.ensures.to
+          (omega (arith, c.rows_of-rows.ensures.some)) (omega (arith, inside, c.requires.records)) (sixteenth c.args.picture.now.y.width c.args.coding.now.across c.requires.coding.wide);
     } in
     subst (λ (bits : List Bool). Leaves {A = Unit {0}} {E = Full} c.code_slice.result.0 c.args.payload.room c.args.payload.made bits c.code_slice.result.1)
     (bits_are c.args.coding.now c.args.picture.now c.args.slice c.rows_of-rows.result.0 c.rows_of-rows.result.1 n c.head_for-head.result (planes_of c.args.source.now) (planes_of c.args.picture.now) given)
@@ -47,7 +48,8 @@ returns-clause-coded c =
       end_is = c.rows_of-rows.ensures.end;
       order = omega (arith, c.rows_of-rows.ensures.some);
       head = c.head_for-head.ensures.value;
-      count = code_slice-requires-clause-records _;
+      count = lent c.rows_of-rows.result.0 c.rows_of-rows.result.1 c.args.coding.now.across (c.args.picture.now.y.width / 16) c.macroblocks_of-from.result.0 c.macroblocks_of-from.result.1 c.args.records.now c.macroblocks_of-from.ensures.from c.macroblocks_of-from.ensures.to
+          (omega (arith, c.rows_of-rows.ensures.some)) (omega (arith, inside, c.requires.records)) (sixteenth c.args.picture.now.y.width c.args.coding.now.across c.requires.coding.wide);
     } in
     both_ok c.code_slice.result.0
     (slice_coded c.args.coding.now c.args.picture.now c.args.slice c.rows_of-rows.result.0 c.rows_of-rows.result.1 n c.macroblocks_of-from.result.0 c.macroblocks_of-from.result.1 c.head_for-head.result (planes_of c.args.source.now) (planes_of c.args.picture.now) (planes_of c.code_slice.new.picture) c.args.records.now c.code_slice.new.records
