@@ -8,7 +8,7 @@ use Rattle.spec_choice.specs.IntraPlans.{intra_plan, intra_plans}
 use Rattle.std.proofs.lemmas.List.FromFn.{length-range_with_len}
 use Rattle.enc_tables.specs.declared.plans.RowPlan.{RowPlan}
 use Rattle.spec_film.specs.Films.{Planes}
-use Rattle.picture_coder.specs.Plans.{IsPlanned}
+use Rattle.slice_coder.specs.Plans.{IsPlanned}
 use Rattle.picture_coder.specs.Planned.{row_at, place_at, RowsPlanned, SlicesPlanned}
 use Rattle.picture_coder.proofs.Sharing.{row_grows}
 

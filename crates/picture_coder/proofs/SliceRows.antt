@@ -13,8 +13,8 @@ use Rattle.spec_encoding.specs.Coding.{Settled, first_row, first_of, count_of, h
 use Rattle.spec_encoding.proofs.Coded.{length-coded}
 use Rattle.spec_encoding.proofs.Numbers.{behind}
 use Rattle.picture_coder.specs.declared.coding.Coding.{Coding}
-use Rattle.picture_coder.specs.declared.place.Place.{Place}
-use Rattle.picture_coder.specs.Plans.{IsPlanned, ArePlanned, place_of, format_of, kind_at, plan_at, records_to, coded}
+use Rattle.slice_coder.specs.declared.place.Place.{Place}
+use Rattle.slice_coder.specs.Plans.{IsPlanned, ArePlanned, place_of, format_of, kind_at, plan_at, records_to, coded}
 use Rattle.picture_coder.specs.Planned.{row_at, place_at, RowsPlanned, SlicesPlanned}
 use Rattle.picture_coder.specs.Pictures.{IsCoding, settled_of, format_for, slice_at, SliceCoded}
 use Rattle.picture_coder.proofs.Planning.{rows_at}

@@ -21,7 +21,7 @@ use Rattle.spec_encoding.specs.Coding.{Settled, first_row, first_of, count_of, h
 use Rattle.spec_encoding.proofs.Ends.{payload_ends}
 use Rattle.spec_encoding.proofs.Numbers.{row_none}
 use Rattle.picture_coder.specs.declared.coding.Coding.{Coding}
-use Rattle.picture_coder.specs.Left.{padded}
+use Rattle.slice_coder.specs.Left.{padded}
 use Rattle.picture_coder.specs.Slices.{units_of}
 use Rattle.picture_coder.specs.Pictures.{settled_of, format_for, slice_at, unit_of, SliceCoded, SlicesCoded, still_long, slices_to, units_to}
 

@@ -3,8 +3,8 @@ use Rattle.std.specs.Prelude.{ℕ, Bool, List, get_or, vec_len, ◌≡◌, ◌�
 use Rattle.std.specs.List.{All}
 use Rattle.enc_tables.specs.declared.plans.RowPlan.{RowPlan}
 use Rattle.spec_film.specs.Films.{Planes}
-use Rattle.picture_coder.specs.declared.place.Place.{Place}
-use Rattle.picture_coder.specs.Plans.{IsPlanned}
+use Rattle.slice_coder.specs.declared.place.Place.{Place}
+use Rattle.slice_coder.specs.Plans.{IsPlanned}
 
 -- the first row of slice k of a picture of so many slices and rows of macroblocks
 abbrev pub row_at : ℕ → ℕ → ℕ → ℕ

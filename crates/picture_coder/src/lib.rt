@@ -7,10 +7,8 @@ mod job;
 mod laws;
 mod memory;
 mod picture;
-mod place;
 mod plans;
 mod rows;
-mod slice;
 mod slices;
 
 pub use coder::PictureCoder;

@@ -9,17 +9,18 @@ ghost use Rattle.spec_bits.specs.Units.{unit_bytes, EndsWell};
 ghost use Rattle.spec_reading.specs.HeadReaders.{idr_head};
 ghost use Rattle.spec_slice_layer.specs.Layer.{IsIdrHead, layer_bits};
 ghost use Rattle.spec_encoding.specs.Frames.{blank_planes};
-ghost use Rattle.picture_coder.specs.Left.{Leaves};
+ghost use Rattle.slice_coder.specs.Left.{Leaves};
 ghost use Rattle.picture_coder.specs.Planned.{SlicesPlanned};
 ghost use Rattle.picture_coder.specs.Pictures.{format_for, IsCoding, slice_at, unit_of, SliceCoded, SlicesCoded, units_to};
 
 use crate::coding::Coding;
 use crate::rows::{macroblocks_of, rows_of};
-use crate::slice::code_slice;
+
 use bit_strings::{BitBuf, Full};
 use enc_tables::{MbRecord, RowPlan, SliceKind};
 use nal_writer::unit;
 use picture_planes::Picture;
+use slice_coder::code_slice;
 use spec_bits::SliceHead;
 
 // nal_ref_idc and nal_unit_type of the slices (ITU-T H.264, table 7-1).

@@ -1,6 +1,6 @@
 use Rattle.std.proofs.Common.{◌≡◌, ◌≤◌, ◌<◌, ◌+◌, ◌-◌, ◌*◌, ◌/◌, ℕ, List, Bool, length, take, drop, sym, ap, ap₂, subst, ◌∙◌, arith}
 use Rattle.picture_planes.specs.Pictures.{planes_of}
-use Rattle.picture_coder.specs.Left.{Leaves}
+use Rattle.slice_coder.specs.Left.{Leaves}
 use Rattle.bit_strings.specs.declared.bit_buf.Full.{Full}
 use Rattle.enc_tables.specs.declared.records.MbRecord.{MbRecord}
 use Rattle.picture_coder.proofs.Sizes.{both_ok, sixteenth}

@@ -1,6 +1,5 @@
--- (for now, a copy)
 -- What a slice of an IDR picture is coded by: its place, and the plans of its rows of macroblocks.
-use Rattle.std.specs.Prelude.{◌≡◌, ℕ, ◌+◌, ◌*◌, ◌/◌, ◌%◌, ◌<◌, ◌≤◌, Bool, List, length, get_or, vec_len}
+use Rattle.std.specs.Prelude.{◌≡◌, ℕ, ◌+◌, ◌*◌, ◌/◌, ◌%◌, ◌<◌, Bool, List, length, get_or, vec_len}
 use Rattle.std.specs.List.{All}
 use Rattle.enc_tables.specs.declared.records.MbKind.{MbKind}
 use Rattle.enc_tables.specs.declared.records.MbPlan.{MbPlan}
@@ -14,7 +13,7 @@ use Rattle.spec_bits.specs.declared.heads.SliceHead.{SliceHead}
 use Rattle.spec_built.specs.Slices.{coded_slice}
 use Rattle.spec_choice.specs.IntraPlans.{intra_plan, intra_plans}
 use Rattle.spec_slice_layer.specs.Layer.{Format, Slice}
-use Rattle.picture_coder.specs.declared.place.Place.{Place}
+use Rattle.slice_coder.specs.declared.place.Place.{Place}
 
 -- the plan of the macroblock at an address of the picture, and its kind
 abbrev pub plan_at : Place → Planes → ℕ → MbPlan

@@ -1,13 +1,20 @@
-// A whole slice. (For now, a contract without its code.)
+// A whole slice.
 ghost use Rattle.std.specs.Prelude.{◌≡◌, ◌≤◌, ◌<◌, ◌-◌, ◌*◌, ◌/◌, [], length, OnOk, Some};
 ghost use Rattle.picture_planes.specs.Pictures.{SameShapes, planes_of};
 ghost use Rattle.spec_slice_layer.specs.Layer.{IsIdrHead, IsSlice, layer_bits, layer_payload, read_layer};
 ghost use Rattle.spec_built.specs.Records.{slice_built};
-ghost use Rattle.picture_coder.specs.Plans.{ArePlanned, IsWhole, place_of, format_of, records_to, coded};
-ghost use Rattle.picture_coder.specs.Left.{Leaves};
+ghost use Rattle.slice_coder.specs.Plans.{ArePlanned, IsWhole, place_of, format_of, records_to, coded};
+ghost use Rattle.slice_coder.specs.Left.{Leaves};
 
+use crate::close::close;
+use crate::data::code_macroblocks;
+use crate::place::Place;
+use crate::samples::samples_fit;
 use bit_strings::{BitBuf, Full};
+use cabac_coder::Coder;
+use cabac_contexts::Contexts;
 use enc_tables::{MbRecord, RowPlan};
+use param_sets::write_slice_head;
 use picture_planes::Picture;
 use spec_bits::SliceHead;
 
@@ -44,5 +51,27 @@ pub fn code_slice(
     ensures slice { IsSlice (format_of picture.old t8x8) (coded (place_of picture.old rows.0 t8x8) head.now (planes_of source.now) (planes_of picture.old) (length records.old)) }
     ensures read_back { read_layer (format_of picture.old t8x8) (layer_payload (format_of picture.old t8x8) (coded (place_of picture.old rows.0 t8x8) head.now (planes_of source.now) (planes_of picture.old) (length records.old))) ≡ Some (coded (place_of picture.old rows.0 t8x8) head.now (planes_of source.now) (planes_of picture.old) (length records.old)) }
 {
-    (Err(Full), buf)
+    samples_fit(source);
+    samples_fit(picture);
+    let place = Place {
+        across: picture.y.width / 16,
+        row: rows.0,
+        t8x8,
+    };
+    if write_slice_head(&mut buf, head).is_err() {
+        return (Err(Full), buf);
+    }
+    let mut coder = Coder::start(buf);
+    let mut contexts = Contexts::init(head.kind, head.qp);
+    code_macroblocks(
+        &mut coder,
+        &mut contexts,
+        picture,
+        source,
+        plans,
+        head,
+        &place,
+        records,
+    );
+    close(coder)
 }

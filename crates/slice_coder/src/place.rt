@@ -1,5 +1,4 @@
-// Where a slice stands. (For now, a copy.)
-
+// Where a slice stands.
 /// Where a slice stands in its picture, and which transforms it may use.
 #[derive(Clone, Copy)]
 pub struct Place {
