@@ -1,0 +1,6 @@
+//! Access units of IDR pictures: the parameter sets, and the units of the picture's slices (ITU-T H.264, clause 7.4.1.2.3).
+#![tactic(auto)]
+
+mod sets;
+
+pub use sets::write_parameter_sets;

@@ -1,0 +1,52 @@
+-- What a coder of pictures holds, and what it makes of a job.
+use Rattle.std.specs.Prelude.{ℕ, Bool, List, length, vec_len, ◌≡◌, ◌+◌, ◌*◌, ◌/◌}
+use Rattle.picture_planes.specs.Pictures.{SameShapes}
+use Rattle.spec_bits.specs.Bits.{bits_of_bytes}
+use Rattle.spec_film.specs.Films.{Planes}
+use Rattle.spec_slice_layer.specs.Layer.{Format, Slice}
+use Rattle.spec_encoding.specs.Coding.{Settled, coded_picture}
+use Rattle.picture_coder.specs.declared.coder.PictureCoder.{PictureCoder}
+use Rattle.picture_coder.specs.Planned.{SlicesPlanned}
+use Rattle.picture_coder.specs.Slices.{units_of}
+use Rattle.picture_coder.specs.Sizes.{HasSizes}
+
+-- a coder of pictures of this size
+pub record IsMadeFor (c : PictureCoder) (width height slices : ℕ) : Type 0 where
+  pub across : c.across ≡ (width + 15) / 16
+  pub down : c.down ≡ (height + 15) / 16
+  pub slices_are : c.slices ≡ slices
+  pub sizes : HasSizes width height c.picture
+
+-- all rows of a source are planned, each as a row of its slice
+abbrev pub HasPlans : PictureCoder → Bool → Planes → Type 0
+HasPlans c t8x8 source = SlicesPlanned c.across c.down c.slices t8x8 source c.slices c.plans.items
+
+-- how this coder codes a picture
+abbrev pub settled_for : PictureCoder → Bool → ℕ → Settled
+settled_for c t8x8 qp = record { across = c.across; down = c.down; qp = qp; slices = c.slices; t8x8 = t8x8 }
+
+-- the slices of a source, coded with this quantisation parameter
+abbrev pub slices_for : PictureCoder → Bool → ℕ → ℕ → Planes → List Slice
+slices_for c t8x8 qp idr_id source = coded_picture (settled_for c t8x8 qp) idr_id source
+
+-- the bits of the units of its slices, where 8x8 transforms may be used or not; the first has a start code of four bytes where it is `long`
+abbrev pub bits_for : PictureCoder → Bool → Bool → List Slice → List Bool
+bits_for c t8x8 long slices = bits_of_bytes (units_of long (record { across = c.across; total = c.across * c.down; t8x8 = t8x8 }) slices)
+
+-- a coder before and after a call that plans
+pub record OnlyPlansDiffer (old new : PictureCoder) : Type 0 where
+  pub across : new.across ≡ old.across
+  pub down : new.down ≡ old.down
+  pub slices : new.slices ≡ old.slices
+  pub room : new.room ≡ old.room
+  pub records : new.records ≡ old.records
+  pub picture : new.picture ≡ old.picture
+
+-- a coder before and after a call that codes: the picture has its sizes and margins still, and records are as many as before
+pub record OnlyPictureDiffers (old new : PictureCoder) : Type 0 where
+  pub across : new.across ≡ old.across
+  pub down : new.down ≡ old.down
+  pub slices : new.slices ≡ old.slices
+  pub room : new.room ≡ old.room
+  pub plans : new.plans ≡ old.plans
+  pub shapes : SameShapes old.picture new.picture

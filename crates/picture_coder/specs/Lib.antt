@@ -1,0 +1,5 @@
+pub mod Sizes
+pub mod Planned
+pub mod Slices
+pub mod Pictures
+pub mod Coders

@@ -1,0 +1,161 @@
+// A coder of pictures, with all its memory.
+ghost use Rattle.std.specs.Prelude.{◌≡◌, ◌≤◌, ◌<◌, ◌+◌, ◌*◌, vec_len, Some, []};
+ghost use Rattle.picture_coder.specs.Planned.{AreRows};
+
+use crate::coding::Coding;
+use crate::job::Job;
+use crate::memory::{blank_plans, blank_records};
+use crate::picture::code_picture;
+use crate::plans::plan_picture;
+use bit_strings::{BitBuf, Full};
+use enc_edge::Gate;
+use enc_tables::{MbRecord, RowPlan};
+use picture_planes::Picture;
+use std::alloc::{AllocError as OutOfMemory, Global};
+
+/// Plans and codes pictures of one size, each as an IDR picture of intra macroblocks.
+///
+/// All memory is taken when it is made: the plans of the rows, a record for each macroblock, the coded picture, and one buffer for the
+/// payload of a slice. Slices are coded one after another, so one buffer serves.
+#[derive(Drop)]
+pub struct PictureCoder {
+    // Macroblocks in a row, and rows.
+    across: u32,
+    down: u32,
+    slices: u32,
+    plans: Vec<RowPlan>,
+    records: Vec<MbRecord>,
+    picture: Picture,
+    // Empty between calls, with room for so many bits. It is None while a picture is coded.
+    payload: Option<BitBuf>,
+    room: u64,
+    ghost across_fits: { (1 ≤ across) × (across ≤ 256) },
+    ghost down_fits: { (1 ≤ down) × (down ≤ 144) },
+    ghost slices_fit: { (1 ≤ slices) × (slices ≤ down) },
+    ghost wide: { picture.y.width ≡ 16 * across },
+    ghost high: { picture.y.height ≡ 16 * down },
+    ghost plan_count: { vec_len plans ≡ down },
+    ghost rows: { AreRows across plans.items },
+    ghost record_count: { vec_len records ≡ down * across },
+    ghost rests: { payload ≡ Some (record { text = []; room = room; made = room }) },
+}
+
+impl PictureCoder {
+    ghost use Rattle.std.specs.Prelude.{◌≡◌, ◌≤◌, ◌<◌, ◌+◌, ◌*◌, ◌/◌, ◌%◌, ◌==◌, true, length, max, IfOk, OnOk};
+    ghost use Rattle.enc_tables.specs.declared.SliceKind.TheVariants.{I};
+    ghost use Rattle.picture_planes.specs.Pictures.{planes_of, SameShapes};
+    ghost use Rattle.bit_strings.specs.BitText.{Appends};
+    ghost use Rattle.spec_encoding.specs.Frames.{picture_of};
+    ghost use Rattle.picture_coder.specs.Coders.{IsMadeFor, HasPlans, OnlyPlansDiffer, OnlyPictureDiffers, slices_for, bits_for};
+
+    /// A coder of pictures of this size, each of so many slices. Width and height are in luma samples, and are rounded up to multiples
+    /// of 16. A payload has room for `cpb` bits, or for 128 bits a macroblock and 1024 more where that is greater.
+    pub fn new(
+        alloc: Global,
+        width: u32,
+        height: u32,
+        slices: u32,
+        cpb: u32,
+    ) -> Result<PictureCoder, OutOfMemory>
+        requires width { (1 ≤ width) × (width ≤ 4096) }
+        requires height { (1 ≤ height) × (height ≤ 2304) }
+        requires some { 1 ≤ slices }
+        requires few { slices ≤ (height + 15) / 16 }
+        ensures made { IfOk result (λ c. IsMadeFor c width height slices) }
+        ensures room { IfOk result (λ c. max cpb (128 * (c.down * c.across) + 1024) ≤ c.room) }
+    {
+        let across = (width + 15) / 16;
+        let down = (height + 15) / 16;
+        let room = cpb.max(128 * (down * across) + 1024);
+        let bytes = room / 8 + 1;
+        let plans = blank_plans(alloc, across, down)?;
+        let records = blank_records(alloc, down * across)?;
+        let picture = Picture::new(alloc, width, height)?;
+        let payload = BitBuf::with_room(alloc, bytes)?;
+        Ok(PictureCoder {
+            across,
+            down,
+            slices,
+            plans,
+            records,
+            picture,
+            payload: Some(payload),
+            room: 8 * u64::from(bytes),
+        })
+    }
+
+    /// How many bits the payload of a slice has at most, and so how many bits `out` may have left when a picture is coded.
+    pub fn room(&self) -> u64
+        ensures { result ≡ self.now.room }
+    {
+        self.room
+    }
+
+    /// The picture that was coded last, as a decoder shows it, not cropped.
+    pub fn decoded(&self) -> &Picture
+        ensures { result.now ≡ self.now.picture }
+    {
+        &self.picture
+    }
+
+    /// Plans all rows of the job's source, each as a row of its slice. The gate is asked before each row.
+    pub fn plan<R, G: Gate + Sync>(&mut self, _rt: &R, job: &Job, gate: &G)
+        requires source { SameShapes self.old.picture job.now.source.now }
+        requires slices { job.now.slices ≡ self.old.slices }
+        requires intra { job.now.step.kind ≡ I }
+        requires idr { job.now.step.idr ≡ true }
+        ensures planned { HasPlans self.new job.now.t8x8 (planes_of job.now.source.now) }
+        ensures others { OnlyPlansDiffer self.old self.new }
+    {
+        plan_picture(
+            job.source,
+            self.slices,
+            job.t8x8,
+            self.plans.as_mut_slice(),
+            gate,
+        );
+    }
+
+    /// Codes the picture by the plans that were made of it, with this quantisation parameter, and appends the units of its slices: the
+    /// first one has a start code of four bytes where `out` was empty. `decoded` is then the picture that a decoder shows.
+    ///
+    /// `Full` comes exactly where the units don't fit the room of `out`, which is then as before. The plans stay in any case, so
+    /// that the picture may be coded again with another parameter.
+    pub fn code<R>(&mut self, _rt: &R, job: &Job, qp: u8, out: &mut BitBuf) -> Result<(), Full>
+        requires source { SameShapes self.old.picture job.now.source.now }
+        requires slices { job.now.slices ≡ self.old.slices }
+        requires intra { job.now.step.kind ≡ I }
+        requires idr { job.now.step.idr ≡ true }
+        requires idr_id { job.now.idr_id ≤ 1 }
+        requires planned { HasPlans self.old job.now.t8x8 (planes_of job.now.source.now) }
+        requires qp { qp ≤ 51 }
+        requires room { out.old.room ≤ length out.old.text + self.old.room }
+        requires whole { length out.old.text % 8 ≡ 0 }
+        ensures units { Appends out.old out.new (bits_for self.old job.now.t8x8 (length out.old.text == 0) (slices_for self.old job.now.t8x8 qp job.now.idr_id (planes_of job.now.source.now))) result }
+        ensures decoded { OnOk result (planes_of self.new.picture ≡ picture_of self.old.across self.old.down (slices_for self.old job.now.t8x8 qp job.now.idr_id (planes_of job.now.source.now))) }
+        ensures others { OnlyPictureDiffers self.old self.new }
+    {
+        let coding = Coding {
+            across: self.across,
+            down: self.down,
+            slices: self.slices,
+            qp,
+            t8x8: job.t8x8,
+            idr_id: job.idr_id,
+        };
+        let Some(payload) = self.payload.take() else {
+            unreachable!();
+        };
+        let (done, payload) = code_picture(
+            &coding,
+            job.source,
+            &self.plans,
+            &mut self.picture,
+            self.records.as_mut_slice(),
+            payload,
+            out,
+        );
+        self.payload = Some(payload);
+        done
+    }
+}

@@ -1,0 +1,50 @@
+// Memory that is taken once, for pictures of one size.
+ghost use Rattle.std.specs.Prelude.{◌≡◌, ◌≤◌, vec_len, IfOk};
+ghost use Rattle.picture_coder.specs.Planned.{AreRows};
+
+use enc_tables::{MbKind, MbRecord, Motion, RowPlan, Vector};
+use std::alloc::{AllocError as OutOfMemory, Global};
+
+/// Plans in which nothing is planned, of `down` rows of `across` macroblocks.
+pub fn blank_plans(alloc: Global, across: u32, down: u32) -> Result<Vec<RowPlan>, OutOfMemory>
+    ensures count { IfOk result (λ plans. vec_len plans ≡ down) }
+    ensures rows { IfOk result (λ plans. AreRows across plans.items) }
+{
+    let mut plans = Vec::with_capacity(alloc, down as usize)?;
+    for row in 0..down {
+        let mut plan = RowPlan::new(alloc, across)?;
+        plan.row = row;
+        plans.push(plan)?;
+    }
+    Ok(plans)
+}
+
+fn blank_record() -> MbRecord {
+    let zero = Vector { x: 0, y: 0 };
+    let motion = Motion {
+        refs: [-1, -1],
+        vectors: [zero, zero],
+    };
+    MbRecord {
+        kind: MbKind::Pcm,
+        transform8: false,
+        modes: [0; 16],
+        chroma_mode: 0,
+        motion: [motion; 4],
+        mvd: [zero; 8],
+        luma_cbp: 0,
+        chroma_cbp: 0,
+        qp: 0,
+        luma_dc: [0; 16],
+        luma: [0; 256],
+        chroma_dc: [0; 8],
+        chroma_ac: [0; 120],
+    }
+}
+
+/// Records of which nothing is said.
+pub fn blank_records(alloc: Global, count: u32) -> Result<Vec<MbRecord>, OutOfMemory>
+    ensures count { IfOk result (λ records. vec_len records ≡ count) }
+{
+    vec![in alloc; blank_record(); count as usize]
+}

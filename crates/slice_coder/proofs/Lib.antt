@@ -1,0 +1,11 @@
+mod Follow
+mod Ending
+mod Going
+mod Building
+mod Shapes
+mod Planned
+mod Layers
+mod PlaneBytes
+mod CodedMb
+mod Stepping
+mod Closing

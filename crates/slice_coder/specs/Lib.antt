@@ -1,0 +1,3 @@
+pub mod Plans
+pub mod Strings
+pub mod Left

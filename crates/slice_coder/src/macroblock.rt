@@ -1,0 +1,96 @@
+// A macroblock, coded by its plan.
+ghost use Rattle.std.specs.Prelude.{◌≡◌, ◌≤◌, ◌<◌, ◌+◌, ◌*◌, ◌/◌, ◌%◌, ◌++◌, ℕ, length, replicate, get_or, vec_len};
+ghost use Rattle.std.specs.List.{All};
+ghost use Rattle.enc_tables.specs.declared.records.MbPlan.{MbPlan};
+ghost use Rattle.enc_tables.specs.declared.plans.RowPlan.{RowPlan};
+ghost use Rattle.picture_planes.specs.Pictures.{SameShapes, planes_of};
+ghost use Rattle.spec_built.specs.Records.{intra_built, macroblock_built, site_of};
+ghost use Rattle.spec_built.specs.Slices.{coded_record, is_8x8};
+ghost use Rattle.spec_records.specs.Coded.{ModesFit};
+ghost use Rattle.intra_coder.specs.Reach.{Stands};
+ghost use Rattle.slice_coder.specs.Plans.{ArePlanned, IsWhole, kind_at, plan_at};
+
+use crate::place::Place;
+use cabac_contexts::is_16x16;
+use enc_tables::{MbKind, MbPlan, MbRecord, RowPlan, SliceKind, choose};
+use intra_coder::{code_intra4, code_intra8, code_intra16, site_of};
+use picture_planes::Picture;
+use spec_bits::SliceHead;
+use spec_built::Site;
+
+fn is_8x8(kind: MbKind) -> bool
+    ensures { result ≡ is_8x8 kind }
+{
+    matches!(kind, MbKind::Intra8)
+}
+
+// The modes of Intra 8x8, as a record has them.
+fn first_modes(modes: &[u8; 4]) -> [u8; 16]
+    ensures { result ≡ modes.now ++ replicate 12 0 }
+{
+    let mut all = [0; 16];
+    all[..4].copy_from_slice(modes);
+    all
+}
+
+fn code_by_plan(
+    picture: &mut Picture,
+    source: &Picture,
+    site: &Site,
+    kind: MbKind,
+    plan: &MbPlan,
+) -> MbRecord
+    requires in_range { site.now.qp ≤ 51 }
+    requires stands { Stands site.now picture.old.y }
+    requires alike { SameShapes picture.old source.now }
+    requires modes { ModesFit plan.now }
+    ensures shapes { SameShapes picture.old picture.new }
+    ensures record { (across : ℕ) → picture.old.y.width ≡ 16 * across → result ≡ coded_record across site.now kind plan.now (planes_of source.now) (planes_of picture.old) }
+    ensures planes { planes_of picture.new ≡ intra_built picture.old.y.width site.now result (planes_of picture.old) }
+{
+    if is_16x16(kind) {
+        return code_intra16(picture, source, site, plan.mode16, plan.chroma_mode);
+    }
+    if is_8x8(kind) {
+        let modes = first_modes(&plan.modes8);
+        return code_intra8(picture, source, site, &modes, plan.chroma_mode);
+    }
+    code_intra4(picture, source, site, &plan.modes4, plan.chroma_mode)
+}
+
+// The plan of macroblock `n` of rows with `across` macroblocks each.
+fn plan_of<'a>(plans: &'a [RowPlan], across: u32, n: u32) -> &'a MbPlan
+    requires across { 0 < across }
+    requires rows { n / across < length plans.now }
+    requires full { All (λ p. vec_len p.mbs ≡ across) plans.now }
+    ensures { (row : RowPlan) (mb : MbPlan) → result.now ≡ get_or (get_or plans.now (n / across) row).mbs.items (n % across) mb }
+{
+    &plans[(n / across) as usize].mbs[(n % across) as usize]
+}
+
+/// Codes macroblock `n` of a slice, and builds it as a decoder does of its record.
+pub fn code_record(
+    picture: &mut Picture,
+    source: &Picture,
+    plans: &[RowPlan],
+    head: &SliceHead,
+    place: &Place,
+    n: u32,
+) -> MbRecord
+    requires whole { IsWhole picture.old }
+    requires across { picture.old.y.width ≡ 16 * place.now.across }
+    requires alike { SameShapes picture.old source.now }
+    requires first { head.now.first_mb ≡ place.now.row * place.now.across }
+    requires qp { head.now.qp ≤ 51 }
+    requires inside { head.now.first_mb + n < place.now.across * (picture.old.y.height / 16) }
+    requires rows { n / place.now.across < length plans.now }
+    requires planned { ArePlanned place.now (planes_of source.now) plans.now }
+    ensures shapes { SameShapes picture.old picture.new }
+    ensures record { result ≡ coded_record place.now.across (site_of place.now.across head.now.first_mb (head.now.first_mb + n) head.now.qp) (kind_at place.now head.now.qp (planes_of source.now) (head.now.first_mb + n)) (plan_at place.now (planes_of source.now) (head.now.first_mb + n)) (planes_of source.now) (planes_of picture.old) }
+    ensures planes { planes_of picture.new ≡ macroblock_built place.now.across head.now.first_mb (head.now.first_mb + n) result (planes_of picture.old) }
+{
+    let plan = plan_of(plans, place.across, n);
+    let kind = choose(SliceKind::I, plan, head.qp, place.t8x8).0;
+    let site = site_of(place.across, head.first_mb, head.first_mb + n, head.qp);
+    code_by_plan(picture, source, &site, kind, plan)
+}
