@@ -1,8 +1,11 @@
 // The pictures of a film are encoded, one after another.
 ghost use Rattle.std.specs.Prelude.{◌≡◌, ◌≤◌, ◌/◌};
+ghost use Rattle.std.specs.List.{All};
 ghost use Rattle.bit_strings.specs.BitText.{BitText};
+ghost use Rattle.spec_bits.specs.Bits.{IsByte};
 ghost use Rattle.spec_film.specs.Films.{AllowedHead};
 ghost use Rattle.spec_stream.specs.Pictures.{IsPicture};
+ghost use Rattle.picture_planes.specs.Samples.{samples_of};
 ghost use Rattle.picture_planes.specs.Pictures.{planes_of};
 ghost use Rattle.y4m_film.specs.Sizes.{FitsHead};
 ghost use Rattle.encode_film.specs.Pictures.{EndLeft, PictureLeft, PicturesLeft};
@@ -10,7 +13,7 @@ ghost use Rattle.encode_film.specs.Pictures.{EndLeft, PictureLeft, PicturesLeft}
 use crate::{EncodeEnd, UnitCoder};
 use bit_strings::BitBuf;
 use enc_edge::{Gate, Out, Studio, write_full};
-use picture_planes::Picture;
+use picture_planes::{Picture, Plane};
 use spec_film::{FilmHead, InputFault};
 use spec_words::Settings;
 use y4m_film::{FrameFault, next_picture, put_head, put_picture};
@@ -79,7 +82,7 @@ pub(crate) fn encode_pictures<S: Studio, G: Gate + Sync, C: UnitCoder>(
             Err(FrameFault::ReadFault) => return Err(EncodeEnd::Read),
             Err(FrameFault::Form) => return Err(EncodeEnd::Input(InputFault::Form)),
         }
-        are_bytes(head, picture);
+        is_picture(head, picture);
         match encode_picture(studio, gate, head, settings, coder, number, picture, unit) {
             Ok(()) => {}
             Err(end) => return Err(end),
@@ -88,11 +91,26 @@ pub(crate) fn encode_pictures<S: Studio, G: Gate + Sync, C: UnitCoder>(
     end_pictures(studio, head, picture)
 }
 
-// A picture has the film's sizes, and its samples are bytes.
-fn are_bytes(head: &FilmHead, picture: &Picture)
+// What stands in a slice of bytes is below 256.
+fn are_bytes(bytes: &[u8])
+    ensures { All IsByte bytes.now }
+{}
+
+fn has_bytes(plane: &Plane)
+    ensures { All IsByte (samples_of plane.now) }
+{
+    are_bytes(plane.rows_from(0, 0));
+}
+
+// A picture of the film's sizes is a picture of the film: its samples are bytes.
+fn is_picture(head: &FilmHead, picture: &Picture)
     requires { FitsHead head.now picture.now }
     ensures { IsPicture head.now (planes_of picture.now) }
-{}
+{
+    has_bytes(&picture.y);
+    has_bytes(&picture.cb);
+    has_bytes(&picture.cr);
+}
 
 // Behind the last picture that a film may have, the input has to end.
 fn end_pictures<S: Studio>(

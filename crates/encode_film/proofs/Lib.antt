@@ -1,0 +1,5 @@
+pub mod Bytes
+pub mod Coding
+pub mod Going
+pub mod Growing
+pub mod Remaining
