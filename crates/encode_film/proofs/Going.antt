@@ -196,10 +196,10 @@ going_cut Stream head settings number m planes old mid read new below g was next
     let now : wrote (places.Output Stream) (take front.count b) read ≡ written (a ++ take front.count b) f (g.count + m) old
     = ap (wrote (places.Output Stream) (take front.count b)) (read_on head settings number m old mid read g was) ∙ stream_written (g.count + m) a (take front.count b) f old in
     let fronts : written (a ++ take front.count b) f (g.count + m) old
-        ≡ written (take (length a + front.count) (encoded_stream head settings (g.pictures ++ planes ∷ []))) (take (length f) (shown_film head settings (g.pictures ++ planes ∷ []))) (g.count + m) old
+    ≡ written (take (length a + front.count) (encoded_stream head settings (g.pictures ++ planes ∷ []))) (take (length f) (shown_film head settings (g.pictures ++ planes ∷ []))) (g.count + m) old
     = ap₂ (λ (x y : List ℕ). written x y (g.count + m) old)
-        (front_of front.count a b (encoded_stream head settings (g.pictures ++ planes ∷ [])) (stream_push head settings number g.pictures planes g.size))
-        (front_none f q (shown_film head settings (g.pictures ++ planes ∷ [])) (film_push head settings number g.pictures planes g.size)) in
+    (front_of front.count a b (encoded_stream head settings (g.pictures ++ planes ∷ [])) (stream_push head settings number g.pictures planes g.size))
+    (front_none f q (shown_film head settings (g.pictures ++ planes ∷ [])) (film_push head settings number g.pictures planes g.size)) in
     record {
       count = g.count + m;
       pictures = g.pictures ++ planes ∷ [];
@@ -217,13 +217,13 @@ going_cut Recon head settings number m planes old mid read new below g was next 
     let all = encoded_stream head settings (g.pictures ++ planes ∷ []) in
     let now : wrote (places.Output Recon) (take front.count q) (wrote (places.Output Stream) b read) ≡ written (a ++ b) (f ++ take front.count q) (g.count + m) old
     = ap (λ (s : Seen). wrote (places.Output Recon) (take front.count q) (wrote (places.Output Stream) b s)) (read_on head settings number m old mid read g was)
-        ∙ ap (wrote (places.Output Recon) (take front.count q)) (stream_written (g.count + m) a b f old)
-        ∙ film_written (g.count + m) (a ++ b) f (take front.count q) old in
+    ∙ ap (wrote (places.Output Recon) (take front.count q)) (stream_written (g.count + m) a b f old)
+    ∙ film_written (g.count + m) (a ++ b) f (take front.count q) old in
     let fronts : written (a ++ b) (f ++ take front.count q) (g.count + m) old
-        ≡ written (take (length all) all) (take (length f + front.count) (shown_film head settings (g.pictures ++ planes ∷ []))) (g.count + m) old
+    ≡ written (take (length all) all) (take (length f + front.count) (shown_film head settings (g.pictures ++ planes ∷ []))) (g.count + m) old
     = ap₂ (λ (x y : List ℕ). written x y (g.count + m) old)
-        (front_all a b all (stream_push head settings number g.pictures planes g.size))
-        (front_of front.count f q (shown_film head settings (g.pictures ++ planes ∷ [])) (film_push head settings number g.pictures planes g.size)) in
+    (front_all a b all (stream_push head settings number g.pictures planes g.size))
+    (front_of front.count f q (shown_film head settings (g.pictures ++ planes ∷ [])) (film_push head settings number g.pictures planes g.size)) in
     record {
       count = g.count + m;
       pictures = g.pictures ++ planes ∷ [];
@@ -237,7 +237,6 @@ going_cut Recon head settings number m planes old mid read new below g was next 
 -- writing the head of the reconstruction failed
 pub head_cut : (head : FilmHead) (settings : Settings) (old new : Seen) → FrontWritten Recon (head_text head) old new → PictureUnwritten head settings Recon old new
 head_cut head settings old new front =
-    let g = going_none head settings old (wrote (places.Output Recon) (head_text head) old) refl in
     record {
       count = 0;
       pictures = [];
@@ -246,7 +245,7 @@ head_cut head settings old new front =
       short = first_none head settings 0;
       failed = subst (λ (s : Seen). LaterFailed (places.Output Recon) s new)
           (ap₂ (λ (f : List ℕ) (s : Seen). wrote (places.Output Recon) (take front.count f) s) (sym (film_none head settings)) (sym (nothing_yet old))) front.failed;
-      told = first_of head 0 0 [] old.input.bytes g.told;
+      told = first_of head 0 0 [] old.input.bytes (remains_none head old.input.bytes);
     }
   where
     nothing_yet : (s : Seen) → wrote (places.Output Stream) [] (took places.Input 0 s) ≡ s

@@ -1,5 +1,5 @@
 -- What is written for a film grows with each picture.
-use Rattle.std.proofs.Common.{ℕ, ◌+◌, ◌*◌, ◌/◌, ◌%◌, ◌≡◌, ◌≤◌, Bool, true, false, List, [], ◌∷◌, ◌++◌, length, Option, Some, None, refl, ap, sym, ◌∙◌, subst, arith, append_assoc, append-nil}
+use Rattle.std.proofs.Common.{ℕ, suc, ◌+◌, ◌*◌, ◌/◌, ◌%◌, ◌≡◌, ◌≤◌, Bool, true, false, List, [], ◌∷◌, ◌++◌, length, Option, Some, None, refl, ap, sym, ◌∙◌, subst, arith, append_assoc, append-nil, if◌then◌else◌}
 use Rattle.std.specs.List.{flat_map}
 use Rattle.std.proofs.lemmas.List.Concat.{flat_map-append}
 use Rattle.spec_film.specs.declared.FilmHead.{FilmHead}
@@ -69,19 +69,16 @@ film_none h s = append-nil (head_text h)
 
 -- THE FIRST THAT IS TOO LONG
 
-by_test : (b : Bool) (x y z : Option ℕ) → b ≡ false → y ≡ z → (if b then x else y) ≡ z
-by_test b x y z no is = rw no is
-
 -- behind pictures that aren't too long
 first_behind : (h : FilmHead) (s : Settings) (k : ℕ) (ps qs : List Planes) → first_long h s k ps ≡ None → first_long h s k (ps ++ qs) ≡ first_long h s (k + length ps) qs
 unfolding first_long
 first_behind h s k [] qs none = ap (λ n. first_long h s n qs) (omega arith)
-first_behind h s k (p ∷ ps) qs none = go (is_long h s k p) none (first_behind h s (k + 1) ps qs)
+first_behind h s k (p ∷ ps) qs none = go (is_long h s k p) (k + suc (length ps)) none (first_behind h s (k + 1) ps qs) (omega arith)
   where
-    go : (b : Bool) → (if b then Some k else first_long h s (k + 1) ps) ≡ None → (first_long h s (k + 1) ps ≡ None → first_long h s (k + 1) (ps ++ qs) ≡ first_long h s (k + 1 + length ps) qs)
-        → (if b then Some k else first_long h s (k + 1) (ps ++ qs)) ≡ first_long h s (k + (length ps + 1)) qs
-    go true none next = absurd (cc)
-    go false none next = next none ∙ ap (λ n. first_long h s n qs) (omega arith)
+    go : (b : Bool) (n : ℕ) → (if b then Some k else first_long h s (k + 1) ps) ≡ None → (first_long h s (k + 1) ps ≡ None → first_long h s (k + 1) (ps ++ qs) ≡ first_long h s (k + 1 + length ps) qs)
+        → k + 1 + length ps ≡ n → (if b then Some k else first_long h s (k + 1) (ps ++ qs)) ≡ first_long h s n qs
+    go true n none next is = absurd (cc)
+    go false n none next is = next none ∙ ap (λ m. first_long h s m qs) is
 
 pub first_none : (h : FilmHead) (s : Settings) (k : ℕ) → first_long h s k [] ≡ None
 unfolding first_long
@@ -93,16 +90,16 @@ first_of_one h s n p others b is = ap (λ (c : Bool). if c then Some n else firs
 
 -- one more that isn't
 pub short_push : (h : FilmHead) (s : Settings) (n : ℕ) (ps : List Planes) (p : Planes) → length ps ≡ n → first_long h s 0 ps ≡ None → is_long h s n p ≡ false → first_long h s 0 (ps ++ p ∷ []) ≡ None
-short_push h s n ps p is none no =
+short_push h s n ps p is none short =
     first_behind h s 0 ps (p ∷ []) none
     ∙ ap (λ m. first_long h s m (p ∷ [])) (zero_before (length ps) ∙ is)
-    ∙ first_of_one h s n p [] false no ∙ first_none h s (n + 1)
+    ∙ first_of_one h s n p [] false short ∙ first_none h s (n + 1)
 
 -- one that is
 pub long_there : (h : FilmHead) (s : Settings) (n : ℕ) (ps : List Planes) (p : Planes) (others : List Planes) → length ps ≡ n → first_long h s 0 ps ≡ None → is_long h s n p ≡ true
     → first_long h s 0 ((ps ++ p ∷ []) ++ others) ≡ Some n
-long_there h s n ps p others is none yes =
+long_there h s n ps p others is none long =
     ap (first_long h s 0) (append_assoc ps (p ∷ []) others)
     ∙ first_behind h s 0 ps (p ∷ others) none
     ∙ ap (λ m. first_long h s m (p ∷ others)) (zero_before (length ps) ∙ is)
-    ∙ first_of_one h s n p others true yes
+    ∙ first_of_one h s n p others true long

@@ -1,0 +1,46 @@
+use Rattle.std.proofs.Common.{ap, Err}
+use Rattle.encode_film.specs.Outputs.{named}
+use Rattle.encode_film.proofs.Running.{head_read, head_unread, no_head_there, slices_refused, both_open, stopped, closing}
+use Rattle.encode_film.proofs.run.encode_film.Goals as goal
+
+pub returns-in-Err-ReadFault : goal.returns-in-Err-ReadFault
+returns-in-Err-ReadFault g c =
+    let seen = g.S.Studio.seen in
+    head_unread (named c.args.input.now c.args.stream.now c.args.recon.now) c.args.settings.now (seen c.args.studio.now) (seen c.open_in.new.self) (seen c.read_head.new.studio) c.in-Ok.ensures
+    (c.in-Err-ReadFault.ensures.read (ap (λ e. Err e) c.in-Err-ReadFault.field-0-is))
+
+pub returns-in-Err-Form : goal.returns-in-Err-Form
+returns-in-Err-Form g c =
+    let seen = g.S.Studio.seen in
+    no_head_there (named c.args.input.now c.args.stream.now c.args.recon.now) c.args.settings.now (seen c.args.studio.now) (seen c.open_in.new.self) (seen c.read_head.new.studio) c.in-Ok.ensures
+    (c.in-Err-Form.ensures.form (ap (λ e. Err e) c.in-Err-Form.field-0-is))
+
+pub returns-then-has_too_many_slices : goal.returns-then-has_too_many_slices
+returns-then-has_too_many_slices g c =
+    let seen = g.S.Studio.seen in
+    let names = named c.args.input.now c.args.stream.now c.args.recon.now in
+    let head = c.in-Ok-read_head.head in
+    let t = c.in-Ok-read_head.ensures.ok in
+    let old = seen c.args.studio.now in
+    let read = head_read names c.args.settings.now head t.0 old (seen c.open_in.new.self) (seen c.read_head.new.studio) c.in-Ok-read_head.ensures.allowed c.in-Ok.ensures t.1 in
+    ?
+
+pub returns-in-Err-encode_pictures : goal.returns-in-Err-encode_pictures
+returns-in-Err-encode_pictures g c =
+    let seen = g.S.Studio.seen in
+    let names = named c.args.input.now c.args.stream.now c.args.recon.now in
+    let head = c.in-Ok-read_head.head in
+    let t = c.in-Ok-read_head.ensures.ok in
+    let old = seen c.args.studio.now in
+    let read = head_read names c.args.settings.now head t.0 old (seen c.open_in.new.self) (seen c.read_head.new.studio) c.in-Ok-read_head.ensures.allowed c.in-Ok.ensures t.1 in
+    ?
+
+pub returns : goal.returns
+returns g c =
+    let seen = g.S.Studio.seen in
+    let names = named c.args.input.now c.args.stream.now c.args.recon.now in
+    let head = c.in-Ok-read_head.head in
+    let t = c.in-Ok-read_head.ensures.ok in
+    let old = seen c.args.studio.now in
+    let read = head_read names c.args.settings.now head t.0 old (seen c.open_in.new.self) (seen c.read_head.new.studio) c.in-Ok-read_head.ensures.allowed c.in-Ok.ensures t.1 in
+    ?
