@@ -1,4 +1,4 @@
-use Rattle.std.proofs.Common.{ap, Err}
+use Rattle.std.proofs.Common.{ap, sym, ◌∙◌, Err}
 use Rattle.encode_film.specs.Outputs.{named}
 use Rattle.encode_film.proofs.Running.{head_read, head_unread, no_head_there, slices_refused, both_open, stopped, closing}
 use Rattle.encode_film.proofs.run.encode_film.Goals as goal
@@ -23,7 +23,7 @@ returns-then-has_too_many_slices g c =
     let t = c.in-Ok-read_head.ensures.ok in
     let old = seen c.args.studio.now in
     let read = head_read names c.args.settings.now head t.0 old (seen c.open_in.new.self) (seen c.read_head.new.studio) c.in-Ok-read_head.ensures.allowed c.in-Ok.ensures t.1 in
-    ?
+    slices_refused names c.args.settings.now head t.0 old (seen c.read_head.new.studio) read (sym c.has_too_many_slices.ensures ∙ c.if-has_too_many_slices.true)
 
 pub returns-in-Err-encode_pictures : goal.returns-in-Err-encode_pictures
 returns-in-Err-encode_pictures g c =
@@ -33,7 +33,8 @@ returns-in-Err-encode_pictures g c =
     let t = c.in-Ok-read_head.ensures.ok in
     let old = seen c.args.studio.now in
     let read = head_read names c.args.settings.now head t.0 old (seen c.open_in.new.self) (seen c.read_head.new.studio) c.in-Ok-read_head.ensures.allowed c.in-Ok.ensures t.1 in
-    ?
+    let begun = both_open names c.args.settings.now head t.0 old (seen c.read_head.new.studio) (seen c.open_out.new.self) (seen c.open_out-2.new.self) read (sym c.has_too_many_slices.ensures ∙ c.if-has_too_many_slices.false) c.in-Ok-open_out.ensures c.in-Ok-open_out-2.ensures in
+    stopped names c.args.settings.now head t.0 old (seen c.open_out-2.new.self) (seen c.encode_pictures.new.studio) begun c.in-Err-encode_pictures.end c.in-Err-encode_pictures.ensures
 
 pub returns : goal.returns
 returns g c =
@@ -43,4 +44,5 @@ returns g c =
     let t = c.in-Ok-read_head.ensures.ok in
     let old = seen c.args.studio.now in
     let read = head_read names c.args.settings.now head t.0 old (seen c.open_in.new.self) (seen c.read_head.new.studio) c.in-Ok-read_head.ensures.allowed c.in-Ok.ensures t.1 in
-    ?
+    let begun = both_open names c.args.settings.now head t.0 old (seen c.read_head.new.studio) (seen c.open_out.new.self) (seen c.open_out-2.new.self) read (sym c.has_too_many_slices.ensures ∙ c.if-has_too_many_slices.false) c.in-Ok-open_out.ensures c.in-Ok-open_out-2.ensures in
+    closing names c.args.settings.now head t.0 old (seen c.open_out-2.new.self) (seen c.encode_pictures.new.studio) (seen c.close_outputs.new.studio) c.requires.qp c.requires.slices begun c.in-Ok-encode_pictures.ensures c.close_outputs.result c.close_outputs.ensures
