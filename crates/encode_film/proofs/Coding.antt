@@ -15,7 +15,8 @@ use Rattle.spec_film.specs.Written.{picture_text}
 use Rattle.spec_words.specs.declared.Settings.{Settings}
 use Rattle.spec_encoding.specs.Encoding.{encoded_picture, reconstructed}
 use Rattle.encode_film.specs.Limits.{is_long}
-use Rattle.encode_film.specs.Pictures.{PictureEncoded, PictureCut}
+use Rattle.encode_film.specs.Outputs.{PictureCut}
+use Rattle.encode_film.specs.Pictures.{PictureEncoded}
 
 not_over : (n m : ℕ) → m ≤ n → nat_lt n m ≡ false
 not_over n m h = grind (arith, nat_tests)

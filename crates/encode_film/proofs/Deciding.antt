@@ -20,26 +20,28 @@ use Rattle.encode_film.specs.Films.{FilmBegins, IsFilm}
 use Rattle.encode_film.specs.Leaving.{Leaves}
 use Rattle.encode_film.specs.Limits.{too_many_slices, first_long}
 use Rattle.encode_film.specs.Outputs.{Names}
-use Rattle.encode_film.specs.Runs.{Allowed, Encoded, OpenFailed, ReadFault, in_head, in_pictures, WriteFault, in_writing, in_closing, NoFilm, no_head, cut_short, SlicesRefused, TooLong, NoFault}
+use Rattle.encode_film.specs.Runs.{Allowed, Encoded, OpenFailed, ReadFault, in_head, in_pictures, WriteFault, head_cut, picture_cut, closing_stream, closing_recon, NoFilm, no_head, cut_short, SlicesRefused, TooLong, NoFault}
 use Rattle.encode_film.proofs.Growing.{long_there}
 
 -- CAUSES
 
-open_rose : (place : Place) (names : Names) (old new : Seen) → OpenFailed names old new place → Rose (spot_at place old).opening (spot_at place new).opening
-open_rose places.Input names old new failed = failed.rose
-open_rose (places.Output Stream) names old new failed = failed.1.rose
-open_rose (places.Output Recon) names old new failed = failed.1.rose
-open_rose (places.Output Report) names old new failed = absurd failed
+open_rose : (place : Place) (names : Names) (settings : Settings) (old new : Seen) → OpenFailed names settings old new place → Rose (spot_at place old).opening (spot_at place new).opening
+open_rose places.Input names settings old new failed = failed.rose
+open_rose (places.Output Stream) names settings old new (mid, read, failed) = subst (λ (s : Seen). Rose s.stream.opening new.stream.opening) read.now failed.rose
+open_rose (places.Output Recon) names settings old new (mid, read, failed) = subst (λ (s : Seen). Rose s.recon.opening new.recon.opening) read.now failed.rose
+open_rose (places.Output Report) names settings old new failed = absurd failed
 
 read_rose : (names : Names) (settings : Settings) (old new : Seen) → ReadFault names settings old new → Rose old.input.later new.input.later
 read_rose names settings old new (in_head n failed) = failed.rose
 read_rose names settings old new (in_pictures n head pictures mid so_far failed) = subst (λ (s : Seen). Rose s.input.later new.input.later) so_far.now failed.rose
 
 write_rose : (names : Names) (settings : Settings) (out : Out) (old new : Seen) → WriteFault names settings old new out → Rose (spot_at (places.Output out) old).later (spot_at (places.Output out) new).later
-write_rose names settings Stream old new (in_writing Stream mid fronts failed) = subst (λ (s : Seen). Rose s.stream.later new.stream.later) fronts.now failed.rose
-write_rose names settings Recon old new (in_writing Recon mid fronts failed) = subst (λ (s : Seen). Rose s.recon.later new.recon.later) fronts.now failed.rose
-write_rose names settings Report old new (in_writing Report mid fronts failed) = subst (λ (s : Seen). Rose s.report.later new.report.later) fronts.now failed.rose
-write_rose names settings Recon old new (in_closing mid fronts failed) = subst (λ (s : Seen). Rose s.recon.later new.recon.later) fronts.now failed.rose
+write_rose names settings Recon old new (head_cut mid read front) = subst (λ (s : Seen). Rose s.recon.later new.recon.later) read.now front.failed.rose
+write_rose names settings Stream old new (picture_cut Stream mid read short front) = subst (λ (s : Seen). Rose s.stream.later new.stream.later) read.now front.failed.rose
+write_rose names settings Recon old new (picture_cut Recon mid read short front) = subst (λ (s : Seen). Rose s.recon.later new.recon.later) read.now front.failed.rose
+write_rose names settings Report old new (picture_cut Report mid read short front) = absurd front
+write_rose names settings Stream old new (closing_stream mid all failed) = subst (λ (s : Seen). Rose s.stream.later new.stream.later) all.now failed.rose
+write_rose names settings Recon old new (closing_recon mid all failed) = subst (λ (s : Seen). Rose s.recon.later new.recon.later) all.now failed.rose
 
 -- ANSWERS
 
@@ -79,16 +81,17 @@ no_film_end names settings fault old new left is (cut_short n head pictures chan
 
 long_end : (names : Names) (settings : Settings) (number : ℕ) (old new : Seen) (left : List ℕ) → old.input.bytes ≡ Some left → TooLong names settings number old new → answer_of (film_of left) settings ≡ Err (Long number)
 long_end names settings number old new left is l =
-    let t = of_told old.input.bytes left (λ bytes. FilmBegins bytes l.head (l.pictures ++ l.source ∷ [])) is l.told in
-    few_end (film_of left) settings l.head (Some number) (film_of left).end t.head_is l.allowed.few
-    (ap (first_long l.head settings 0) (sym t.pictures_are) ∙ long_there l.head settings number l.pictures l.source t.others l.size l.allowed.short l.long) refl
+    let r = l.read in
+    let t = of_told old.input.bytes left (λ bytes. FilmBegins bytes r.head (r.pictures ++ r.source ∷ [])) is r.told in
+    few_end (film_of left) settings r.head (Some number) (film_of left).end t.head_is r.allowed.few
+    (ap (first_long r.head settings 0) (sym t.pictures_are) ∙ long_there r.head settings number r.pictures r.source t.others l.size r.allowed.short l.long) refl
 
 pub answers : (names : Names) (settings : Settings) (old new : Seen) (r : Result (Unit {0}) EncodeEnd) → Leaves names settings old new r → (left : List ℕ) → old.input.bytes ≡ Some left → NoFault old new
     → Answers (film_of left) settings r
 answers names settings old new (Ok done) l left is none =
     let t = of_told old.input.bytes left _ is l.whole in
     inl (sym (whole_end (film_of left) settings l.head l.pictures Ended l.allowed t.1.head_is t.1.pictures_are t.1.end_is))
-answers names settings old new (Err (Open place)) l left is none = absurd (none.opening place (open_rose place names old new l))
+answers names settings old new (Err (Open place)) l left is none = absurd (none.opening place (open_rose place names settings old new l))
 answers names settings old new (Err Read) l left is none = absurd (none.later places.Input (read_rose names settings old new l))
 answers names settings old new (Err (Write out)) l left is none = absurd (none.later (places.Output out) (write_rose names settings out old new l))
 answers names settings old new (Err (Input fault)) l left is none = inl (sym (no_film_end names settings fault old new left is l))

@@ -27,8 +27,8 @@ use Rattle.encode_film.specs.declared.ends.EncodeEnd.{EncodeEnd}
 use Rattle.encode_film.specs.declared.ends.EncodeEnd.TheVariants.{Open, Read, Write, Input, Setting, Long, OutOfMemory}
 use Rattle.encode_film.specs.Films.{FirstPictures}
 use Rattle.encode_film.specs.Limits.{is_long, first_long}
-use Rattle.encode_film.specs.Outputs.{written, shown_film}
-use Rattle.encode_film.specs.Pictures.{PictureEncoded, PictureCut, PictureLeft, PicturesEncoded, PicturesEnd, PictureUnread, PictureUnwritten, PictureTooLong, PicturesLeft, EndLeft}
+use Rattle.encode_film.specs.Outputs.{written, shown_film, PictureCut}
+use Rattle.encode_film.specs.Pictures.{PictureEncoded, PictureLeft, PicturesEncoded, PicturesEnd, PictureRead, PictureUnread, PictureUnwritten, cut_picture, PictureTooLong, PicturesLeft, EndLeft}
 use Rattle.encode_film.proofs.Growing.{stream_push, film_push, stream_none, film_none, first_none, short_push}
 use Rattle.encode_film.proofs.Remaining.{Remains, remains_none, first_of, remains_more, remains_over, none_left, remains_broken}
 
@@ -148,108 +148,17 @@ going_unread head settings number old mid new g failed = record {
   failed = failed.1;
 }
 
--- the access unit of the next picture is too long
-going_long : (head : FilmHead) (settings : Settings) (number m : ℕ) (planes : Planes) (old mid read new : Seen) → number < most_pictures → Going head settings number old mid
-    → read ≡ took places.Input m mid → IfSome mid.input.bytes (λ left. frame_step (most_pictures - number) head left ≡ Next planes (drop m left))
-    → is_long head settings number planes ≡ true → new ≡ read → PictureTooLong head settings number old new
-going_long head settings number m planes old mid read new below g was next long same = record {
+-- the next picture was read
+abbrev next_read : (head : FilmHead) (settings : Settings) (number m : ℕ) (planes : Planes) (old mid read : Seen) → number < most_pictures → Going head settings number old mid
+    → read ≡ took places.Input m mid → IfSome mid.input.bytes (λ left. frame_step (most_pictures - number) head left ≡ Next planes (drop m left)) → PictureRead head settings old read
+next_read head settings number m planes old mid read below g was next = record {
   count = g.count + m;
   pictures = g.pictures;
-  size = g.size;
   source = planes;
-  long = long;
-  change = same ∙ read_on head settings number m old mid read g was;
+  change = read_on head settings number m old mid read g was;
   short = g.short;
   told = first_of head (number + 1) (g.count + m) (g.pictures ++ planes ∷ []) old.input.bytes (told_more head settings number m planes old mid g below next);
 }
-
--- FRONTS
-
-take_all : (xs : List ℕ) → xs ≡ take (length xs) xs
-take_all xs = grind (arith, common_steps)
-
--- a front behind what was written before
-front_of : (e : ℕ) (text unit all : List ℕ) → all ≡ text ++ unit → text ++ take e unit ≡ take (length text + e) all
-front_of e text unit all is = sym (ap (take (length text + e)) is ∙ take-append-add text unit e)
-
--- nothing of it
-front_none : (text unit all : List ℕ) → all ≡ text ++ unit → text ≡ take (length text) all
-front_none text unit all is = sym (append-nil text) ∙ front_of 0 text unit all is ∙ ap (λ n. take n all) (plus_none (length text))
-  where
-    plus_none : (n : ℕ) → n + 0 ≡ n
-    plus_none n = omega arith
-
--- all of it
-front_all : (text unit all : List ℕ) → all ≡ text ++ unit → text ++ unit ≡ take (length all) all
-front_all text unit all is = sym is ∙ take_all all
-
--- writing the next picture failed
-going_cut : (out : Out) (head : FilmHead) (settings : Settings) (number m : ℕ) (planes : Planes) (old mid read new : Seen) → number < most_pictures → Going head settings number old mid
-    → read ≡ took places.Input m mid → IfSome mid.input.bytes (λ left. frame_step (most_pictures - number) head left ≡ Next planes (drop m left))
-    → is_long head settings number planes ≡ false → PictureCut head settings number planes read new out → PictureUnwritten head settings out old new
-going_cut Report head settings number m planes old mid read new below g was next short front = absurd front
-going_cut Stream head settings number m planes old mid read new below g was next short front =
-    let a = encoded_stream head settings g.pictures in
-    let f = shown_film head settings g.pictures in
-    let b = encoded_picture head settings number planes in
-    let q = picture_text (reconstructed head settings number planes) in
-    let now : wrote (places.Output Stream) (take front.count b) read ≡ written (a ++ take front.count b) f (g.count + m) old
-    = ap (wrote (places.Output Stream) (take front.count b)) (read_on head settings number m old mid read g was) ∙ stream_written (g.count + m) a (take front.count b) f old in
-    let fronts : written (a ++ take front.count b) f (g.count + m) old
-    ≡ written (take (length a + front.count) (encoded_stream head settings (g.pictures ++ planes ∷ []))) (take (length f) (shown_film head settings (g.pictures ++ planes ∷ []))) (g.count + m) old
-    = ap₂ (λ (x y : List ℕ). written x y (g.count + m) old)
-    (front_of front.count a b (encoded_stream head settings (g.pictures ++ planes ∷ [])) (stream_push head settings number g.pictures planes g.size))
-    (front_none f q (shown_film head settings (g.pictures ++ planes ∷ [])) (film_push head settings number g.pictures planes g.size)) in
-    record {
-      count = g.count + m;
-      pictures = g.pictures ++ planes ∷ [];
-      stream_size = length a + front.count;
-      film_size = length f;
-      short = short_push head settings number g.pictures planes g.size g.short short;
-      failed = subst (λ (s : Seen). LaterFailed (places.Output Stream) s new) (now ∙ fronts) front.failed;
-      told = first_of head (number + 1) (g.count + m) (g.pictures ++ planes ∷ []) old.input.bytes (told_more head settings number m planes old mid g below next);
-    }
-going_cut Recon head settings number m planes old mid read new below g was next short front =
-    let a = encoded_stream head settings g.pictures in
-    let f = shown_film head settings g.pictures in
-    let b = encoded_picture head settings number planes in
-    let q = picture_text (reconstructed head settings number planes) in
-    let all = encoded_stream head settings (g.pictures ++ planes ∷ []) in
-    let now : wrote (places.Output Recon) (take front.count q) (wrote (places.Output Stream) b read) ≡ written (a ++ b) (f ++ take front.count q) (g.count + m) old
-    = ap (λ (s : Seen). wrote (places.Output Recon) (take front.count q) (wrote (places.Output Stream) b s)) (read_on head settings number m old mid read g was)
-    ∙ ap (wrote (places.Output Recon) (take front.count q)) (stream_written (g.count + m) a b f old)
-    ∙ film_written (g.count + m) (a ++ b) f (take front.count q) old in
-    let fronts : written (a ++ b) (f ++ take front.count q) (g.count + m) old
-    ≡ written (take (length all) all) (take (length f + front.count) (shown_film head settings (g.pictures ++ planes ∷ []))) (g.count + m) old
-    = ap₂ (λ (x y : List ℕ). written x y (g.count + m) old)
-    (front_all a b all (stream_push head settings number g.pictures planes g.size))
-    (front_of front.count f q (shown_film head settings (g.pictures ++ planes ∷ [])) (film_push head settings number g.pictures planes g.size)) in
-    record {
-      count = g.count + m;
-      pictures = g.pictures ++ planes ∷ [];
-      stream_size = length all;
-      film_size = length f + front.count;
-      short = short_push head settings number g.pictures planes g.size g.short short;
-      failed = subst (λ (s : Seen). LaterFailed (places.Output Recon) s new) (now ∙ fronts) front.failed;
-      told = first_of head (number + 1) (g.count + m) (g.pictures ++ planes ∷ []) old.input.bytes (told_more head settings number m planes old mid g below next);
-    }
-
--- writing the head of the reconstruction failed
-pub head_cut : (head : FilmHead) (settings : Settings) (old new : Seen) → FrontWritten Recon (head_text head) old new → PictureUnwritten head settings Recon old new
-head_cut head settings old new front =
-    record {
-      count = 0;
-      pictures = [];
-      stream_size = 0;
-      film_size = front.count;
-      short = first_none head settings 0;
-      failed = subst (λ (s : Seen). LaterFailed (places.Output Recon) s new)
-          (ap₂ (λ (f : List ℕ) (s : Seen). wrote (places.Output Recon) (take front.count f) s) (sym (film_none head settings)) (sym (nothing_yet old))) front.failed;
-      told = first_of head 0 0 [] old.input.bytes (remains_none head old.input.bytes);
-    }
-  where
-    nothing_yet : (s : Seen) → wrote (places.Output Stream) [] (took places.Input 0 s) ≡ s
-    nothing_yet s = wrote_none (places.Output Stream) (took places.Input 0 s) ∙ took_none s
 
 -- the next picture wasn't encoded
 pub going_stopped : (head : FilmHead) (settings : Settings) (number m : ℕ) (planes : Planes) (old mid read new : Seen) → number < most_pictures → Going head settings number old mid
@@ -257,11 +166,17 @@ pub going_stopped : (head : FilmHead) (settings : Settings) (number m : ℕ) (pl
     → (end : EncodeEnd) → PictureLeft head settings number planes read new (Err end) → PicturesLeft head settings old new (Err end)
 going_stopped head settings number m planes old mid read new below g was next (Open place) l = absurd l
 going_stopped head settings number m planes old mid read new below g was next Read l = absurd l
-going_stopped head settings number m planes old mid read new below g was next (Write out) l = going_cut out head settings number m planes old mid read new below g was next l.0 l.1
+going_stopped head settings number m planes old mid read new below g was next (Write out) l =
+    cut_picture out read (next_read head settings number m planes old mid read below g was next)
+    (subst (λ k. is_long head settings k planes ≡ false) (sym g.size) l.0) (subst (λ k. PictureCut head settings k planes read new out) (sym g.size) l.1)
 going_stopped head settings number m planes old mid read new below g was next (Input fault) l = absurd l
 going_stopped head settings number m planes old mid read new below g was next (Setting fault) l = absurd l
 going_stopped head settings number m planes old mid read new below g was next (Long picture) l =
-    subst (λ k. PictureTooLong head settings k old new) (sym l.0) (going_long head settings number m planes old mid read new below g was next l.1 l.2)
+    record {
+      read = next_read head settings number m planes old mid new below g (l.2 ∙ was) next;
+      size = g.size ∙ sym l.0;
+      long = subst (λ k. is_long head settings k planes ≡ true) (sym l.0) l.1;
+    }
 going_stopped head settings number m planes old mid read new below g was next OutOfMemory l = absurd l
 
 -- the read behind the last picture that a film may have

@@ -11,10 +11,12 @@ use Rattle.enc_edge.specs.Seen.{Seen}
 use Rattle.enc_edge.specs.Calls.{took, wrote, opened, shut, OpeningFailed, LaterFailed}
 use Rattle.enc_edge.specs.Reads.{Took, TookSome, ReadFailed}
 use Rattle.enc_edge.proofs.Spots.{drop_more, took_more}
+use Rattle.y4m_film.specs.Writes.{FrontWritten}
 use Rattle.spec_film.specs.declared.FilmHead.{FilmHead}
 use Rattle.spec_film.specs.declared.InputFault.{InputFault}
 use Rattle.spec_film.specs.declared.InputFault.TheVariants.{Form}
 use Rattle.spec_film.specs.Films.{AllowedHead, Film, Planes, FilmEnd, Ended, Faulty, most_pictures, pictures_of, read_head, film_of, film_from}
+use Rattle.spec_film.specs.Written.{head_text}
 use Rattle.spec_words.specs.declared.Settings.{Settings}
 use Rattle.spec_stream.specs.Pictures.{IsPicture}
 use Rattle.spec_encoding.specs.Encoding.{encoded_stream, reconstruction}
@@ -24,9 +26,9 @@ use Rattle.encode_film.specs.Closing.{ClosedLeft}
 use Rattle.encode_film.specs.Films.{FilmBegins, IsFilm, FirstPictures}
 use Rattle.encode_film.specs.Leaving.{Leaves}
 use Rattle.encode_film.specs.Limits.{too_many_slices, first_long}
-use Rattle.encode_film.specs.Outputs.{Names, shown_film, written, reading, begun, writing, encoding}
-use Rattle.encode_film.specs.Pictures.{PicturesEnd, PictureUnread, PictureUnwritten, PictureTooLong, PicturesLeft}
-use Rattle.encode_film.specs.Runs.{Allowed, Encoded, OpenFailed, EncodedSoFar, ReadFault, in_head, in_pictures, FrontsWritten, WriteFault, in_writing, in_closing, NoFilm, no_head, cut_short, SlicesRefused, TooLong}
+use Rattle.encode_film.specs.Outputs.{Names, shown_film, written, reading, all_open, encoding}
+use Rattle.encode_film.specs.Pictures.{PicturesEnd, PictureRead, PictureUnread, PictureUnwritten, cut_head, cut_picture, PictureTooLong, PicturesLeft}
+use Rattle.encode_film.specs.Runs.{Allowed, Encoded, OpenFailed, EncodedSoFar, ReadFault, in_head, in_pictures, HeadRead, NextRead, AllEncoded, WriteFault, head_cut, picture_cut, closing_stream, closing_recon, NoFilm, no_head, cut_short, SlicesRefused, TooLong}
 use Rattle.encode_film.proofs.Showing.{shows, reads}
 
 -- the head that the first n bytes are
@@ -34,7 +36,7 @@ abbrev pub HeadIs : FilmHead → ℕ → List ℕ → Type 0
 HeadIs head n left = read_head left ≡ Some (head, drop n left)
 
 -- the head was read from the first n bytes of the input, which stands open, and the slices are few enough
-pub record HeadRead (names : Names) (settings : Settings) (head : FilmHead) (n : ℕ) (old mid : Seen) : Type 0 where
+pub record AtHead (names : Names) (settings : Settings) (head : FilmHead) (n : ℕ) (old mid : Seen) : Type 0 where
   pub allowed : AllowedHead head
   pub change : mid ≡ reading names n old
   pub told : IfSome old.input.bytes (HeadIs head n)
@@ -44,7 +46,7 @@ second_of P Q None both = tt
 second_of P Q (Some left) both = both.1
 
 pub head_read : (names : Names) (settings : Settings) (head : FilmHead) (n : ℕ) (old first second : Seen) → AllowedHead head → first ≡ opened places.Input names.input old
-    → Took n (λ left. (n ≤ length left) × HeadIs head n left) first second → HeadRead names settings head n old second
+    → Took n (λ left. (n ≤ length left) × HeadIs head n left) first second → AtHead names settings head n old second
 head_read names settings head n old first second allowed is t = record {
   allowed = allowed;
   change = t.change ∙ ap (took places.Input n) is;
@@ -74,32 +76,34 @@ no_head_there names settings old first new is t =
     go None e = tt
     go (Some left) e = (ap (λ (x : Film). x.head) (none_is left e), ap (λ (x : Film). x.end) (none_is left e))
 
+head_told : (head : FilmHead) (n : ℕ) (o : Option (List ℕ)) → IfSome o (HeadIs head n) → IfSome o (λ left. (film_of left).head ≡ Some head)
+head_told head n None h = tt
+head_told head n (Some left) h = ap (λ (x : Film). x.head) (film_is head n left h)
+
 -- a picture would have too many slices
-pub slices_refused : (names : Names) (settings : Settings) (head : FilmHead) (n : ℕ) (old mid : Seen) → HeadRead names settings head n old mid → too_many_slices head settings ≡ true → SlicesRefused names settings old mid
+pub slices_refused : (names : Names) (settings : Settings) (head : FilmHead) (n : ℕ) (old mid : Seen) → AtHead names settings head n old mid → too_many_slices head settings ≡ true → SlicesRefused names settings old mid
 slices_refused names settings head n old mid r many = record {
   count = n;
   head = head;
   many = many;
   now = r.change;
-  told = go old.input.bytes r.told;
+  told = head_told head n old.input.bytes r.told;
 }
-  where
-    go : (o : Option (List ℕ)) → IfSome o (HeadIs head n) → IfSome o (λ left. (film_of left).head ≡ Some head)
-    go None h = tt
-    go (Some left) h = ap (λ (x : Film). x.head) (film_is head n left h)
 
--- memory was wanting
-pub head_then_nothing : (names : Names) (settings : Settings) (head : FilmHead) (n : ℕ) (old mid : Seen) → HeadRead names settings head n old mid → (m : ℕ) × (mid ≡ reading names m old)
-head_then_nothing names settings head n old mid r = (n, r.change)
+-- a picture would not have too many
+pub head_passed : (names : Names) (settings : Settings) (head : FilmHead) (n : ℕ) (old mid : Seen) → AtHead names settings head n old mid → too_many_slices head settings ≡ false → HeadRead names settings old mid
+head_passed names settings head n old mid r few = record {
+  count = n;
+  head = head;
+  few = few;
+  now = r.change;
+  told = head_told head n old.input.bytes r.told;
+}
 
-pub stream_unopened : (names : Names) (settings : Settings) (head : FilmHead) (n : ℕ) (old mid new : Seen) → HeadRead names settings head n old mid → OpeningFailed (places.Output Stream) mid new
-    → OpenFailed names old new (places.Output Stream)
-stream_unopened names settings head n old mid new r failed = (n, subst (λ (s : Seen). OpeningFailed (places.Output Stream) s new) r.change failed)
-
-pub recon_unopened : (names : Names) (settings : Settings) (head : FilmHead) (n : ℕ) (old mid next new : Seen) → HeadRead names settings head n old mid → next ≡ opened (places.Output Stream) names.stream mid
-    → OpeningFailed (places.Output Recon) next new → OpenFailed names old new (places.Output Recon)
-recon_unopened names settings head n old mid next new r is failed =
-    (n, subst (λ (s : Seen). OpeningFailed (places.Output Recon) s new) (is ∙ ap (opened (places.Output Stream) names.stream) r.change) failed)
+pub recon_unopened : (names : Names) (settings : Settings) (head : FilmHead) (n : ℕ) (old mid next new : Seen) → AtHead names settings head n old mid → too_many_slices head settings ≡ false
+    → next ≡ opened (places.Output Stream) names.stream mid → OpeningFailed (places.Output Recon) next new → OpenFailed names settings old new (places.Output Recon)
+recon_unopened names settings head n old mid next new r few is failed =
+    (mid, head_passed names settings head n old mid r few, subst (λ (s : Seen). OpeningFailed (places.Output Recon) s new) is failed)
 
 -- ALL PLACES ARE OPEN
 
@@ -107,10 +111,10 @@ recon_unopened names settings head n old mid next new r is failed =
 pub record Begun (names : Names) (settings : Settings) (head : FilmHead) (n : ℕ) (old mid : Seen) : Type 0 where
   pub allowed : AllowedHead head
   pub few : too_many_slices head settings ≡ false
-  pub change : mid ≡ opened (places.Output Recon) names.recon (begun names n old)
+  pub change : mid ≡ all_open names (reading names n old)
   pub told : IfSome old.input.bytes (HeadIs head n)
 
-pub both_open : (names : Names) (settings : Settings) (head : FilmHead) (n : ℕ) (old mid next last : Seen) → HeadRead names settings head n old mid → too_many_slices head settings ≡ false
+pub both_open : (names : Names) (settings : Settings) (head : FilmHead) (n : ℕ) (old mid next last : Seen) → AtHead names settings head n old mid → too_many_slices head settings ≡ false
     → next ≡ opened (places.Output Stream) names.stream mid → last ≡ opened (places.Output Recon) names.recon next → Begun names settings head n old last
 both_open names settings head n old mid next last r few is_next is_last = record {
   allowed = r.allowed;
@@ -128,17 +132,16 @@ behind names settings head n old mid P Q b turn told = go old.input.bytes b.told
     go None h p = tt
     go (Some left) h p = turn left h p
 
--- more bytes were taken, and outputs were written from there on
-further : (names : Names) (a f : List ℕ) (n m : ℕ) (old : Seen) → written a f m (opened (places.Output Recon) names.recon (begun names n old)) ≡ writing names a f (n + m) old
-further names a f n m old =
-    ap (λ (s : Seen). wrote (places.Output Recon) f (wrote (places.Output Stream) a (opened (places.Output Recon) names.recon (opened (places.Output Stream) names.stream s)))) (took_both n m)
+-- what the pictures wrote, from the start on
+from_start : (names : Names) (settings : Settings) (head : FilmHead) (n m : ℕ) (pictures : List Planes) (old mid last : Seen) → Begun names settings head n old mid
+    → last ≡ written (encoded_stream head settings pictures) (shown_film head settings pictures) m mid → last ≡ encoding names head settings pictures (n + m) old
+from_start names settings head n m pictures old mid last b is =
+    let a = encoded_stream head settings pictures in
+    let f = shown_film head settings pictures in
+    is ∙ ap (written a f m) b.change ∙ ap (λ (s : Seen). wrote (places.Output Recon) f (wrote (places.Output Stream) a (all_open names s))) (took_both n m)
   where
     took_both : (n m : ℕ) → took places.Input m (took places.Input n (opened places.Input names.input old)) ≡ took places.Input (n + m) (opened places.Input names.input old)
     took_both n m = took_more n m (opened places.Input names.input old)
-
--- what the pictures wrote, from the start on
-from_start : (names : Names) (settings : Settings) (head : FilmHead) (n m : ℕ) (a f : List ℕ) (old mid last : Seen) → Begun names settings head n old mid → last ≡ written a f m mid → last ≡ writing names a f (n + m) old
-from_start names settings head n m a f old mid last b is = is ∙ ap (written a f m) b.change ∙ further names a f n m old
 
 film_begins : (head : FilmHead) (n : ℕ) (pictures : List Planes) (left : List ℕ) → HeadIs head n left → FirstPictures head pictures (drop n left) → FilmBegins left head pictures
 film_begins head n pictures left is first =
@@ -171,7 +174,7 @@ cut : (names : Names) (settings : Settings) (head : FilmHead) (n : ℕ) (fault :
     → NoFilm names settings fault old new
 cut names settings head n fault old mid new b e =
     cut_short (n + e.count) head e.pictures
-    (from_start names settings head n e.count (encoded_stream head settings e.pictures) (shown_film head settings e.pictures) old mid new b e.change)
+    (from_start names settings head n e.count e.pictures old mid new b e.change)
     (record { few = b.few; short = e.short })
     (ended names settings head n e.pictures (Faulty fault) old mid b e.told)
 
@@ -179,43 +182,37 @@ unread : (names : Names) (settings : Settings) (head : FilmHead) (n : ℕ) (old 
 unread names settings head n old mid new b u =
     in_pictures (n + u.count) head u.pictures u.between
     (record {
-      now = from_start names settings head n u.count (encoded_stream head settings u.pictures) (shown_film head settings u.pictures) old mid u.between b u.encoded.change;
+      now = from_start names settings head n u.count u.pictures old mid u.between b u.encoded.change;
       allowed = record { few = b.few; short = u.encoded.short };
       told = begins names settings head n u.pictures old mid b u.encoded.told;
     })
     u.failed
 
-unwritten : (names : Names) (settings : Settings) (head : FilmHead) (n : ℕ) (out : Out) (old mid new : Seen) → Begun names settings head n old mid → PictureUnwritten head settings out mid new
+next_read : (names : Names) (settings : Settings) (head : FilmHead) (n : ℕ) (old mid new : Seen) → Begun names settings head n old mid → (r : PictureRead head settings mid new) → NextRead names settings old new
+next_read names settings head n old mid new b r = record {
+  count = n + r.count;
+  head = head;
+  pictures = r.pictures;
+  source = r.source;
+  now = from_start names settings head n r.count r.pictures old mid new b r.change;
+  allowed = record { few = b.few; short = r.short };
+  told = begins names settings head n (r.pictures ++ r.source ∷ []) old mid b r.told;
+}
+
+unwritten : (names : Names) (settings : Settings) (head : FilmHead) (n : ℕ) (out : Out) (old mid new : Seen) → Begun names settings head n old mid → PictureUnwritten head settings mid new out
     → WriteFault names settings old new out
-unwritten names settings head n out old mid new b u =
-    let a = take u.stream_size (encoded_stream head settings u.pictures) in
-    let f = take u.film_size (shown_film head settings u.pictures) in
-    in_writing out (written a f u.count mid)
-    (record {
-      count = n + u.count;
-      head = head;
-      pictures = u.pictures;
-      stream_size = u.stream_size;
-      film_size = u.film_size;
-      now = from_start names settings head n u.count a f old mid (written a f u.count mid) b refl;
-      allowed = record { few = b.few; short = u.short };
-      told = begins names settings head n u.pictures old mid b u.told;
-    })
-    u.failed
+unfolding next_read
+unwritten names settings head n Recon old mid new b (cut_head front) =
+    head_cut (reading names n old)
+    (record { count = n; head = head; few = b.few; now = refl; told = head_told head n old.input.bytes b.told })
+    (subst (λ (s : Seen). FrontWritten Recon (head_text head) s new) b.change front)
+unwritten names settings head n _ old mid new b (cut_picture out between r short front) =
+    picture_cut out between (next_read names settings head n old mid between b r) short front
 
 too_long : (names : Names) (settings : Settings) (head : FilmHead) (n number : ℕ) (old mid new : Seen) → Begun names settings head n old mid → PictureTooLong head settings number mid new
     → TooLong names settings number old new
-too_long names settings head n number old mid new b l = record {
-  count = n + l.count;
-  head = head;
-  pictures = l.pictures;
-  size = l.size;
-  source = l.source;
-  long = l.long;
-  now = from_start names settings head n l.count (encoded_stream head settings l.pictures) (shown_film head settings l.pictures) old mid new b l.change;
-  allowed = record { few = b.few; short = l.short };
-  told = begins names settings head n (l.pictures ++ l.source ∷ []) old mid b l.told;
-}
+unfolding next_read
+too_long names settings head n number old mid new b l = record { read = next_read names settings head n old mid new b l.read; size = l.size; long = l.long }
 
 -- not all pictures were encoded
 pub stopped : (names : Names) (settings : Settings) (head : FilmHead) (n : ℕ) (old mid new : Seen) → Begun names settings head n old mid → (end : EncodeEnd) → PicturesLeft head settings mid new (Err end)
@@ -230,39 +227,12 @@ stopped names settings head n old mid new b OutOfMemory l = absurd l
 
 -- CLOSING
 
--- all was written
-whole_fronts : (names : Names) (settings : Settings) (head : FilmHead) (n : ℕ) (old mid last : Seen) → Begun names settings head n old mid → PicturesEnd head settings Ended mid last → FrontsWritten names settings old last
-whole_fronts names settings head n old mid last b e =
-    let a = encoded_stream head settings e.pictures in
-    let f = shown_film head settings e.pictures in
-    record {
-      count = n + e.count;
-      head = head;
-      pictures = e.pictures;
-      stream_size = length a;
-      film_size = length f;
-      now = from_start names settings head n e.count a f old mid last b e.change
-          ∙ ap (λ (x : List ℕ). writing names x f (n + e.count) old) (take_all a) ∙ ap (λ (x : List ℕ). writing names (take (length a) a) x (n + e.count) old) (take_all f);
-      allowed = record { few = b.few; short = e.short };
-      told = begins names settings head n e.pictures old mid b (first_told mid.input.bytes e.told);
-    }
-  where
-    take_all : (xs : List ℕ) → xs ≡ take (length xs) xs
-    take_all xs = grind (arith, common_steps)
-
-    first_told : (o : Option (List ℕ)) → IfSome o (λ left. pictures_of most_pictures head left ≡ (e.pictures, Ended)) → IfSome o (FirstPictures head e.pictures)
-    first_told None all = tt
-    first_told (Some left) all = first_all head e.pictures Ended left all
-
-encoded : (names : Names) (settings : Settings) (head : FilmHead) (n : ℕ) (old mid last new : Seen) → settings.qp ≤ 51 → 1 ≤ settings.slices → Begun names settings head n old mid → PicturesEnd head settings Ended mid last
-    → new ≡ shut (places.Output Recon) (shut (places.Output Stream) last) → Encoded names settings old new
-encoded names settings head n old mid last new qp some b e is = record {
+all_encoded : (names : Names) (settings : Settings) (head : FilmHead) (n : ℕ) (old mid last : Seen) → Begun names settings head n old mid → PicturesEnd head settings Ended mid last → AllEncoded names settings old last
+all_encoded names settings head n old mid last b e = record {
   count = n + e.count;
   head = head;
   pictures = e.pictures;
-  closed = is ∙ ap (λ (s : Seen). shut (places.Output Recon) (shut (places.Output Stream) s)) (from_start names settings head n e.count (encoded_stream head settings e.pictures) (shown_film head settings e.pictures) old mid last b e.change);
-  shows = shows head settings e.pictures b.allowed qp some b.few e.are;
-  reads = reads head settings 0 e.pictures b.allowed qp some b.few e.are;
+  now = from_start names settings head n e.count e.pictures old mid last b e.change;
   allowed = record { few = b.few; short = e.short };
   whole = both (λ left. drop (n + e.count) left ≡ []) (λ left. IsFilm left head e.pictures Ended) old.input.bytes
       (behind names settings head n old mid (λ left. drop e.count left ≡ []) (λ left. drop (n + e.count) left ≡ []) b (λ left h none. sym (drop_more n e.count left) ∙ none) (e.taken refl))
@@ -273,12 +243,28 @@ encoded names settings head n old mid last new qp some b e is = record {
     both P Q None p q = tt
     both P Q (Some left) p q = (p, q)
 
+encoded : (names : Names) (settings : Settings) (head : FilmHead) (n : ℕ) (old mid last new : Seen) → settings.qp ≤ 51 → 1 ≤ settings.slices → Begun names settings head n old mid → PicturesEnd head settings Ended mid last
+    → new ≡ shut (places.Output Recon) (shut (places.Output Stream) last) → Encoded names settings old new
+unfolding all_encoded
+encoded names settings head n old mid last new qp some b e is =
+    let all = all_encoded names settings head n old mid last b e in
+    record {
+      count = n + e.count;
+      head = head;
+      pictures = e.pictures;
+      closed = is ∙ ap (λ (s : Seen). shut (places.Output Recon) (shut (places.Output Stream) s)) (from_start names settings head n e.count e.pictures old mid last b e.change);
+      shows = shows head settings e.pictures b.allowed qp some b.few e.are;
+      reads = reads head settings 0 e.pictures b.allowed qp some b.few e.are;
+      allowed = record { few = b.few; short = e.short };
+      whole = all.whole;
+    }
+
 -- all pictures were encoded, and the outputs were to be closed
 pub closing : (names : Names) (settings : Settings) (head : FilmHead) (n : ℕ) (old mid last new : Seen) → settings.qp ≤ 51 → 1 ≤ settings.slices → Begun names settings head n old mid → PicturesEnd head settings Ended mid last
     → (r : Result (Unit {0}) EncodeEnd) → ClosedLeft last new r → Leaves names settings old new r
 closing names settings head n old mid last new qp some b e (Ok done) l = encoded names settings head n old mid last new qp some b e l
-closing names settings head n old mid last new qp some b e (Err (Write Stream)) l = in_writing Stream last (whole_fronts names settings head n old mid last b e) l
-closing names settings head n old mid last new qp some b e (Err (Write Recon)) l = in_closing last (whole_fronts names settings head n old mid last b e) l
+closing names settings head n old mid last new qp some b e (Err (Write Stream)) l = closing_stream last (all_encoded names settings head n old mid last b e) l
+closing names settings head n old mid last new qp some b e (Err (Write Recon)) l = closing_recon last (all_encoded names settings head n old mid last b e) l
 closing names settings head n old mid last new qp some b e (Err (Write Report)) l = absurd l
 closing names settings head n old mid last new qp some b e (Err (Open place)) l = absurd l
 closing names settings head n old mid last new qp some b e (Err Read) l = absurd l

@@ -12,7 +12,7 @@ use Rattle.spec_film.specs.declared.FilmHead.{FilmHead}
 use Rattle.spec_film.specs.declared.InputFault.{InputFault}
 use Rattle.spec_film.specs.declared.InputFault.TheVariants.{Form}
 use Rattle.spec_film.specs.Films.{Planes, FilmEnd, Ended, Faulty, Broken, most_pictures, frame_step, pictures_of}
-use Rattle.spec_film.specs.Written.{picture_text}
+use Rattle.spec_film.specs.Written.{head_text, picture_text}
 use Rattle.spec_words.specs.declared.Settings.{Settings}
 use Rattle.spec_stream.specs.Pictures.{IsPicture}
 use Rattle.spec_encoding.specs.Encoding.{encoded_picture, encoded_stream, reconstructed}
@@ -20,7 +20,7 @@ use Rattle.encode_film.specs.declared.ends.EncodeEnd.{EncodeEnd}
 use Rattle.encode_film.specs.declared.ends.EncodeEnd.TheVariants.{Open, Read, Write, Input, Setting, Long, OutOfMemory}
 use Rattle.encode_film.specs.Films.{FirstPictures}
 use Rattle.encode_film.specs.Limits.{is_long, first_long}
-use Rattle.encode_film.specs.Outputs.{written, shown_film}
+use Rattle.encode_film.specs.Outputs.{written, shown_film, PictureCut}
 
 -- ONE PICTURE
 
@@ -28,12 +28,6 @@ use Rattle.encode_film.specs.Outputs.{written, shown_film}
 pub record PictureEncoded (head : FilmHead) (settings : Settings) (number : ℕ) (source : Planes) (old new : Seen) : Type 0 where
   pub short : is_long head settings number source ≡ false
   pub change : new ≡ wrote (places.Output Recon) (picture_text (reconstructed head settings number source)) (wrote (places.Output Stream) (encoded_picture head settings number source) old)
-
--- a front of it was written
-abbrev pub PictureCut : FilmHead → Settings → ℕ → Planes → Seen → Seen → Out → Type 0
-PictureCut head settings number source old new Stream = FrontWritten Stream (encoded_picture head settings number source) old new
-PictureCut head settings number source old new Recon = FrontWritten Recon (picture_text (reconstructed head settings number source)) (wrote (places.Output Stream) (encoded_picture head settings number source) old) new
-PictureCut head settings number source old new Report = ⊥
 
 -- what is left after each end
 abbrev pub PictureLeft : FilmHead → Settings → ℕ → Planes → Seen → Seen → Result (Unit {0}) EncodeEnd → Type 0
@@ -72,32 +66,32 @@ pub record PictureUnread (head : FilmHead) (settings : Settings) (old new : Seen
   pub encoded : PicturesEncoded head settings count pictures old between
   pub failed : LaterFailed places.Input between new
 
--- a write failed when fronts of what is written for the pictures were written
-pub record PictureUnwritten (head : FilmHead) (settings : Settings) (out : Out) (old new : Seen) : Type 0 where
+-- pictures were encoded, and the next one was read
+pub record PictureRead (head : FilmHead) (settings : Settings) (old new : Seen) : Type 0 where
   pub count : ℕ
   pub pictures : List Planes
-  pub stream_size : ℕ
-  pub film_size : ℕ
-  pub short : first_long head settings 0 pictures ≡ None
-  pub failed : LaterFailed (places.Output out) (written (take stream_size (encoded_stream head settings pictures)) (take film_size (shown_film head settings pictures)) count old) new
-  pub told : IfSome old.input.bytes (FirstPictures head pictures)
-
--- pictures were encoded, and the access unit of the next one is too long
-pub record PictureTooLong (head : FilmHead) (settings : Settings) (number : ℕ) (old new : Seen) : Type 0 where
-  pub count : ℕ
-  pub pictures : List Planes
-  pub size : length pictures ≡ number
   pub source : Planes
-  pub long : is_long head settings number source ≡ true
   pub change : new ≡ written (encoded_stream head settings pictures) (shown_film head settings pictures) count old
   pub short : first_long head settings 0 pictures ≡ None
   pub told : IfSome old.input.bytes (FirstPictures head (pictures ++ source ∷ []))
+
+-- a write failed: a front of the reconstruction's head was written, or pictures and a front of the next one
+pub data PictureUnwritten (head : FilmHead) (settings : Settings) (old new : Seen) : Out → Type 0 where
+  cut_head : FrontWritten Recon (head_text head) old new → PictureUnwritten head settings old new Recon
+  cut_picture : (out : Out) (mid : Seen) (read : PictureRead head settings old mid) → is_long head settings (length read.pictures) read.source ≡ false
+      → PictureCut head settings (length read.pictures) read.source mid new out → PictureUnwritten head settings old new out
+
+-- pictures were encoded, and the access unit of the next one is too long
+pub record PictureTooLong (head : FilmHead) (settings : Settings) (number : ℕ) (old new : Seen) : Type 0 where
+  pub read : PictureRead head settings old new
+  pub size : length read.pictures ≡ number
+  pub long : is_long head settings number read.source ≡ true
 
 -- what is left after each end of the loop
 abbrev pub PicturesLeft : FilmHead → Settings → Seen → Seen → Result (Unit {0}) EncodeEnd → Type 0
 PicturesLeft head settings old new (Ok done) = PicturesEnd head settings Ended old new
 PicturesLeft head settings old new (Err Read) = PictureUnread head settings old new
-PicturesLeft head settings old new (Err (Write out)) = PictureUnwritten head settings out old new
+PicturesLeft head settings old new (Err (Write out)) = PictureUnwritten head settings old new out
 PicturesLeft head settings old new (Err (Input fault)) = PicturesEnd head settings (Faulty fault) old new
 PicturesLeft head settings old new (Err (Long picture)) = PictureTooLong head settings picture old new
 PicturesLeft head settings old new (Err (Open place)) = ⊥

@@ -5,15 +5,17 @@ use Rattle.enc_edge.specs.declared.studio.Out.TheVariants.{Stream, Recon, Report
 use Rattle.enc_edge.specs.declared.studio.Place.{Place}
 use Rattle.enc_edge.specs.declared.studio.Place.TheVariants.{Input, Output}
 use Rattle.enc_edge.specs.Seen.{Seen, spot_at}
-use Rattle.enc_edge.specs.Calls.{Rose, OpeningFailed, LaterFailed, shut}
+use Rattle.enc_edge.specs.Calls.{Rose, OpeningFailed, LaterFailed, opened, shut}
+use Rattle.y4m_film.specs.Writes.{FrontWritten}
 use Rattle.spec_film.specs.declared.FilmHead.{FilmHead}
 use Rattle.spec_film.specs.declared.InputFault.{InputFault}
 use Rattle.spec_film.specs.Films.{Planes, FilmEnd, Ended, Faulty, film_of}
+use Rattle.spec_film.specs.Written.{head_text}
 use Rattle.spec_words.specs.declared.Settings.{Settings}
 use Rattle.spec_encoding.specs.Encoding.{encoded_stream, reconstruction}
 use Rattle.encode_film.specs.Films.{FilmBegins, IsFilm}
 use Rattle.encode_film.specs.Limits.{too_many_slices, is_long, first_long}
-use Rattle.encode_film.specs.Outputs.{Names, reading, begun, writing, encoding, shown_film}
+use Rattle.encode_film.specs.Outputs.{Names, reading, all_open, encoding, PictureCut}
 use Rattle.encode_film.specs.Showing.{Shows, ReadChoices}
 
 -- nothing of the film up to here is refused: a picture has few enough slices, and no access unit of these pictures is too long
@@ -34,12 +36,20 @@ pub record Encoded (names : Names) (settings : Settings) (old new : Seen) : Type
   pub allowed : Allowed head settings pictures
   pub whole : IfSome old.input.bytes (λ left. (drop count left ≡ []) × IsFilm left head pictures Ended)
 
+-- the input stands open under its name, its head was read, and a picture doesn't have too many slices
+pub record HeadRead (names : Names) (settings : Settings) (old new : Seen) : Type 0 where
+  pub count : ℕ
+  pub head : FilmHead
+  pub few : too_many_slices head settings ≡ false
+  pub now : new ≡ reading names count old
+  pub told : IfSome old.input.bytes (λ left. (film_of left).head ≡ Some head)
+
 -- a place couldn't be opened: nothing was written, and where it is the input, nothing was read
-abbrev pub OpenFailed : Names → Seen → Seen → Place → Type 0
-OpenFailed names old new Input = OpeningFailed Input old new
-OpenFailed names old new (Output Stream) = (n : ℕ) × OpeningFailed (Output Stream) (reading names n old) new
-OpenFailed names old new (Output Recon) = (n : ℕ) × OpeningFailed (Output Recon) (begun names n old) new
-OpenFailed names old new (Output Report) = ⊥
+abbrev pub OpenFailed : Names → Settings → Seen → Seen → Place → Type 0
+OpenFailed names settings old new Input = OpeningFailed Input old new
+OpenFailed names settings old new (Output Stream) = (mid : Seen) × HeadRead names settings old mid × OpeningFailed (Output Stream) mid new
+OpenFailed names settings old new (Output Recon) = (mid : Seen) × HeadRead names settings old mid × OpeningFailed (Output Recon) (opened (Output Stream) names.stream mid) new
+OpenFailed names settings old new (Output Report) = ⊥
 
 -- the outside once these pictures of the film were encoded, and n bytes of the input were taken
 pub record EncodedSoFar (names : Names) (n : ℕ) (head : FilmHead) (settings : Settings) (pictures : List Planes) (old new : Seen) : Type 0 where
@@ -53,21 +63,35 @@ pub data ReadFault (names : Names) (settings : Settings) (old new : Seen) : Type
   in_pictures : (n : ℕ) (head : FilmHead) (pictures : List Planes) (mid : Seen)
       → EncodedSoFar names n head settings pictures old mid → LaterFailed Input mid new → ReadFault names settings old new
 
--- the outside once fronts of what is written for the film's first pictures were written
-pub record FrontsWritten (names : Names) (settings : Settings) (old new : Seen) : Type 0 where
+-- the outside once these pictures of the film were encoded, and the next one was read
+pub record NextRead (names : Names) (settings : Settings) (old new : Seen) : Type 0 where
   pub count : ℕ
   pub head : FilmHead
   pub pictures : List Planes
-  pub stream_size : ℕ
-  pub film_size : ℕ
-  pub now : new ≡ writing names (take stream_size (encoded_stream head settings pictures)) (take film_size (shown_film head settings pictures)) count old
+  pub source : Planes
+  pub now : new ≡ encoding names head settings pictures count old
   pub allowed : Allowed head settings pictures
-  pub told : IfSome old.input.bytes (λ left. FilmBegins left head pictures)
+  pub told : IfSome old.input.bytes (λ left. FilmBegins left head (pictures ++ source ∷ []))
 
--- a write to an output or the closing of the stream failed, or the stream was closed and the closing of the reconstruction failed
+-- the outside once all pictures of the film were encoded
+pub record AllEncoded (names : Names) (settings : Settings) (old new : Seen) : Type 0 where
+  pub count : ℕ
+  pub head : FilmHead
+  pub pictures : List Planes
+  pub now : new ≡ encoding names head settings pictures count old
+  pub allowed : Allowed head settings pictures
+  pub whole : IfSome old.input.bytes (λ left. (drop count left ≡ []) × IsFilm left head pictures Ended)
+
+-- a write to an output failed, or its closing
 pub data WriteFault (names : Names) (settings : Settings) (old new : Seen) : Out → Type 0 where
-  in_writing : (out : Out) (mid : Seen) → FrontsWritten names settings old mid → LaterFailed (Output out) mid new → WriteFault names settings old new out
-  in_closing : (mid : Seen) → FrontsWritten names settings old mid → LaterFailed (Output Recon) (shut (Output Stream) mid) new → WriteFault names settings old new Recon
+  -- a front of the reconstruction's head was written, and no picture was read
+  head_cut : (mid : Seen) (read : HeadRead names settings old mid) → FrontWritten Recon (head_text read.head) (all_open names mid) new → WriteFault names settings old new Recon
+  -- a front of a picture was written behind those before it
+  picture_cut : (out : Out) (mid : Seen) (read : NextRead names settings old mid) → is_long read.head settings (length read.pictures) read.source ≡ false
+      → PictureCut read.head settings (length read.pictures) read.source mid new out → WriteFault names settings old new out
+  -- all was written
+  closing_stream : (mid : Seen) → AllEncoded names settings old mid → LaterFailed (Output Stream) mid new → WriteFault names settings old new Stream
+  closing_recon : (mid : Seen) → AllEncoded names settings old mid → LaterFailed (Output Recon) (shut (Output Stream) mid) new → WriteFault names settings old new Recon
 
 -- the input isn't a film: its head is none, and nothing was written; or the film ends so, and its pictures before that were encoded
 pub data NoFilm (names : Names) (settings : Settings) (fault : InputFault) (old new : Seen) : Type 0 where
@@ -86,15 +110,9 @@ pub record SlicesRefused (names : Names) (settings : Settings) (old new : Seen) 
 
 -- the access unit of the picture of this number, counted from 0, is too long: the pictures before it were encoded
 pub record TooLong (names : Names) (settings : Settings) (number : ℕ) (old new : Seen) : Type 0 where
-  pub count : ℕ
-  pub head : FilmHead
-  pub pictures : List Planes
-  pub size : length pictures ≡ number
-  pub source : Planes
-  pub long : is_long head settings number source ≡ true
-  pub now : new ≡ encoding names head settings pictures count old
-  pub allowed : Allowed head settings pictures
-  pub told : IfSome old.input.bytes (λ left. FilmBegins left head (pictures ++ source ∷ []))
+  pub read : NextRead names settings old new
+  pub size : length read.pictures ≡ number
+  pub long : is_long read.head settings number read.source ≡ true
 
 -- nothing outside failed: no fault number rose
 pub record NoFault (old new : Seen) : Type 0 where

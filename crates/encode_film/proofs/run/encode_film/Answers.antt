@@ -1,6 +1,6 @@
 use Rattle.std.proofs.Common.{ap, sym, ◌∙◌, Err}
 use Rattle.encode_film.specs.Outputs.{named}
-use Rattle.encode_film.proofs.Running.{head_read, head_unread, no_head_there, slices_refused, both_open, stopped, closing}
+use Rattle.encode_film.proofs.Running.{head_read, head_unread, no_head_there, slices_refused, head_passed, recon_unopened, both_open, stopped, closing}
 use Rattle.encode_film.proofs.run.encode_film.Goals as goal
 
 pub returns-in-Err-ReadFault : goal.returns-in-Err-ReadFault
@@ -24,6 +24,56 @@ returns-then-has_too_many_slices g c =
     let old = seen c.args.studio.now in
     let read = head_read names c.args.settings.now head t.0 old (seen c.open_in.new.self) (seen c.read_head.new.studio) c.in-Ok-read_head.ensures.allowed c.in-Ok.ensures t.1 in
     slices_refused names c.args.settings.now head t.0 old (seen c.read_head.new.studio) read (sym c.has_too_many_slices.ensures ∙ c.if-has_too_many_slices.true)
+
+pub returns-in_default : goal.returns-in_default
+returns-in_default g c =
+    let seen = g.S.Studio.seen in
+    let names = named c.args.input.now c.args.stream.now c.args.recon.now in
+    let head = c.in-Ok-read_head.head in
+    let t = c.in-Ok-read_head.ensures.ok in
+    let old = seen c.args.studio.now in
+    let read = head_read names c.args.settings.now head t.0 old (seen c.open_in.new.self) (seen c.read_head.new.studio) c.in-Ok-read_head.ensures.allowed c.in-Ok.ensures t.1 in
+    head_passed names c.args.settings.now head t.0 old (seen c.read_head.new.studio) read (sym c.has_too_many_slices.ensures ∙ c.if-has_too_many_slices.false)
+
+pub returns-in_default-with_room : goal.returns-in_default-with_room
+returns-in_default-with_room g c =
+    let seen = g.S.Studio.seen in
+    let names = named c.args.input.now c.args.stream.now c.args.recon.now in
+    let head = c.in-Ok-read_head.head in
+    let t = c.in-Ok-read_head.ensures.ok in
+    let old = seen c.args.studio.now in
+    let read = head_read names c.args.settings.now head t.0 old (seen c.open_in.new.self) (seen c.read_head.new.studio) c.in-Ok-read_head.ensures.allowed c.in-Ok.ensures t.1 in
+    head_passed names c.args.settings.now head t.0 old (seen c.read_head.new.studio) read (sym c.has_too_many_slices.ensures ∙ c.if-has_too_many_slices.false)
+
+pub returns-in_default-new : goal.returns-in_default-new
+returns-in_default-new g c =
+    let seen = g.S.Studio.seen in
+    let names = named c.args.input.now c.args.stream.now c.args.recon.now in
+    let head = c.in-Ok-read_head.head in
+    let t = c.in-Ok-read_head.ensures.ok in
+    let old = seen c.args.studio.now in
+    let read = head_read names c.args.settings.now head t.0 old (seen c.open_in.new.self) (seen c.read_head.new.studio) c.in-Ok-read_head.ensures.allowed c.in-Ok.ensures t.1 in
+    head_passed names c.args.settings.now head t.0 old (seen c.read_head.new.studio) read (sym c.has_too_many_slices.ensures ∙ c.if-has_too_many_slices.false)
+
+pub returns-in-Err-open_out : goal.returns-in-Err-open_out
+returns-in-Err-open_out g c =
+    let seen = g.S.Studio.seen in
+    let names = named c.args.input.now c.args.stream.now c.args.recon.now in
+    let head = c.in-Ok-read_head.head in
+    let t = c.in-Ok-read_head.ensures.ok in
+    let old = seen c.args.studio.now in
+    let read = head_read names c.args.settings.now head t.0 old (seen c.open_in.new.self) (seen c.read_head.new.studio) c.in-Ok-read_head.ensures.allowed c.in-Ok.ensures t.1 in
+    (seen c.read_head.new.studio, head_passed names c.args.settings.now head t.0 old (seen c.read_head.new.studio) read (sym c.has_too_many_slices.ensures ∙ c.if-has_too_many_slices.false), c.in-Err-open_out.ensures)
+
+pub returns-in-Err-open_out-2 : goal.returns-in-Err-open_out-2
+returns-in-Err-open_out-2 g c =
+    let seen = g.S.Studio.seen in
+    let names = named c.args.input.now c.args.stream.now c.args.recon.now in
+    let head = c.in-Ok-read_head.head in
+    let t = c.in-Ok-read_head.ensures.ok in
+    let old = seen c.args.studio.now in
+    let read = head_read names c.args.settings.now head t.0 old (seen c.open_in.new.self) (seen c.read_head.new.studio) c.in-Ok-read_head.ensures.allowed c.in-Ok.ensures t.1 in
+    recon_unopened names c.args.settings.now head t.0 old (seen c.read_head.new.studio) (seen c.open_out.new.self) (seen c.open_out-2.new.self) read (sym c.has_too_many_slices.ensures ∙ c.if-has_too_many_slices.false) c.in-Ok-open_out.ensures c.in-Err-open_out-2.ensures
 
 pub returns-in-Err-encode_pictures : goal.returns-in-Err-encode_pictures
 returns-in-Err-encode_pictures g c =
