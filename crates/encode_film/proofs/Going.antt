@@ -1,6 +1,7 @@
 -- The loop that encodes pictures.
 use Rattle.std.proofs.Common.{ℕ, zero, suc, ◌+◌, ◌-◌, ◌≡◌, ◌<◌, ◌≤◌, List, [], ◌∷◌, ◌++◌, length, take, drop, Option, Some, None, refl, ap, ap₂, sym, ◌∙◌, subst, arith, append-nil, length-append}
 use Rattle.std.specs.Prelude.{IfSome, All, Result, Ok, Err, Bool, true, false}
+use Rattle.std.specs.Result.{IsErrAnd}
 use Rattle.std.proofs.Math.Seq.{take-append-add}
 use Rattle.std.proofs.lemmas.Grind.{common_steps}
 use Rattle.std.proofs.lemmas.List.Elements.{All-nil, All-cons, All-append}
@@ -194,6 +195,11 @@ going_last head settings number old mid new last g (Err (Open place)) t = absurd
 going_last head settings number old mid new last g (Err (Setting fault)) t = absurd t
 going_last head settings number old mid new last g (Err (Long picture)) t = absurd t
 going_last head settings number old mid new last g (Err OutOfMemory) t = absurd t
+
+-- what is handed on by `?` is the end that was met
+pub handed_on : (P : Result (Unit {0}) EncodeEnd → Type 0) (r : Result (Unit {0}) EncodeEnd) (end : EncodeEnd) → IsErrAnd r (λ e. e ≡ end) → P (Err end) → P r
+handed_on P (Ok done) end is p = absurd is
+handed_on P (Err e) end is p = subst (λ x. P (Err x)) (sym is) p
 
 -- the picture keeps the sizes of the film
 pub fits_still : (head : FilmHead) (old new : Picture) → SameShapes old new → FitsHead head old → FitsHead head new

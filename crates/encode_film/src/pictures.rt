@@ -83,10 +83,7 @@ pub(crate) fn encode_pictures<S: Studio, G: Gate + Sync, C: UnitCoder>(
             Err(FrameFault::Form) => return Err(EncodeEnd::Input(InputFault::Form)),
         }
         is_picture(head, picture);
-        match encode_picture(studio, gate, head, settings, coder, number, picture, unit) {
-            Ok(()) => {}
-            Err(end) => return Err(end),
-        }
+        encode_picture(studio, gate, head, settings, coder, number, picture, unit)?;
     }
     end_pictures(studio, head, picture)
 }

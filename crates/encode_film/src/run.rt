@@ -73,7 +73,7 @@ fn encode_film<S: Studio, G: Gate + Sync, C: UnitCoder>(
         Ok(()) => {}
         Err(_) => return Err(EncodeEnd::Open(Place::Output(Out::Recon))),
     }
-    match encode_pictures(
+    encode_pictures(
         studio,
         gate,
         &head,
@@ -81,10 +81,7 @@ fn encode_film<S: Studio, G: Gate + Sync, C: UnitCoder>(
         &mut coder,
         &mut picture,
         &mut unit,
-    ) {
-        Ok(()) => {}
-        Err(end) => return Err(end),
-    }
+    )?;
     close_outputs(studio)
 }
 

@@ -1,9 +1,9 @@
 use Rattle.std.proofs.Common.{◌≡◌, ◌≤◌, ◌-◌, ap, subst, length, drop, Ok, Err, arith}
 use Rattle.spec_film.specs.Films.{Next, most_pictures, frame_step}
 use Rattle.picture_planes.specs.Pictures.{planes_of}
-use Rattle.encode_film.specs.Pictures.{cut_head}
+use Rattle.encode_film.specs.Pictures.{cut_head, PicturesLeft}
 use Rattle.encode_film.proofs.Remaining.{of_both}
-use Rattle.encode_film.proofs.Going.{going_none, going_more, going_end, going_broken, going_unread, going_stopped, going_last, fits_still}
+use Rattle.encode_film.proofs.Going.{going_none, going_more, going_end, going_broken, going_unread, going_stopped, going_last, handed_on, fits_still}
 use Rattle.encode_film.proofs.pictures.encode_pictures.Goals as goal
 
 pub returns-in-Err : goal.returns-in-Err
@@ -28,7 +28,7 @@ loop-number-preserved g c =
     let next = of_both (λ left. t.0 ≤ length left) (λ left. frame_step (most_pictures - number) c.args.head.now left ≡ Next planes (drop t.0 left)) (seen c.loop-number.studio).input.bytes t.1.content in
     record {
       going = going_more c.args.head.now c.args.settings.now number t.0 planes (seen c.args.studio.now) (seen c.loop-number.studio) (seen c.next_picture.new.studio) (seen c.encode_picture.new.studio)
-          c.loop-number-test.true c.loop-number.invariant.going t.1.change next c.in-Ok-encode_picture.ensures.left c.is_picture.ensures;
+          c.loop-number-test.true c.loop-number.invariant.going t.1.change next c.in_ok-encode_picture.ensures.left c.is_picture.ensures;
       coder = c.encode_picture.ensures.coder;
       sizes = fits_still c.args.head.now c.loop-number.picture c.next_picture.new.picture c.next_picture.ensures.shapes c.loop-number.invariant.sizes;
       room = c.encode_picture.ensures.room;
@@ -52,15 +52,16 @@ returns-in-Err-Form g c =
     going_broken c.args.head.now c.args.settings.now c.loop-number.number (seen c.args.studio.now) (seen c.loop-number.studio) (seen c.next_picture.new.studio) c.loop-number.invariant.going
     (c.in-Err-Form.ensures.form (ap (λ e. Err e) c.in-Err-Form.field-0-is))
 
-pub returns-in-Err-encode_picture : goal.returns-in-Err-encode_picture
-returns-in-Err-encode_picture g c =
+pub returns-in_err-encode_picture : goal.returns-in_err-encode_picture
+returns-in_err-encode_picture g c =
     let seen = g.S.Studio.seen in
     let number = c.loop-number.number in
     let planes = planes_of c.next_picture.new.picture in
     let t = c.in-Ok-true.ensures.picture (ap (λ b. Ok b) c.in-Ok-true.field-0-test) in
     let next = of_both (λ left. t.0 ≤ length left) (λ left. frame_step (most_pictures - number) c.args.head.now left ≡ Next planes (drop t.0 left)) (seen c.loop-number.studio).input.bytes t.1.content in
-    going_stopped c.args.head.now c.args.settings.now number t.0 planes (seen c.args.studio.now) (seen c.loop-number.studio) (seen c.next_picture.new.studio) (seen c.encode_picture.new.studio)
-    c.loop-number-test.true c.loop-number.invariant.going t.1.change next c.in-Err-encode_picture.end c.in-Err-encode_picture.ensures.left
+    handed_on (PicturesLeft c.args.head.now c.args.settings.now (seen c.args.studio.now) (seen c.encode_picture.new.studio)) c.from_residual.result c.in_err-encode_picture.field-0.0 c.from_residual.ensures.1
+    (going_stopped c.args.head.now c.args.settings.now number t.0 planes (seen c.args.studio.now) (seen c.loop-number.studio) (seen c.next_picture.new.studio) (seen c.encode_picture.new.studio)
+    c.loop-number-test.true c.loop-number.invariant.going t.1.change next c.in_err-encode_picture.field-0.0 c.in_err-encode_picture.ensures.left)
 
 pub returns : goal.returns
 returns g c =

@@ -1,5 +1,7 @@
 use Rattle.std.proofs.Common.{ap, sym, ◌∙◌, Err}
+use Rattle.encode_film.specs.Leaving.{Leaves}
 use Rattle.encode_film.specs.Outputs.{named}
+use Rattle.encode_film.proofs.Going.{handed_on}
 use Rattle.encode_film.proofs.Running.{head_read, head_unread, no_head_there, slices_refused, head_passed, recon_unopened, both_open, stopped, closing}
 use Rattle.encode_film.proofs.run.encode_film.Goals as goal
 
@@ -75,8 +77,8 @@ returns-in-Err-open_out-2 g c =
     let read = head_read names c.args.settings.now head t.0 old (seen c.open_in.new.self) (seen c.read_head.new.studio) c.in-Ok-read_head.ensures.allowed c.in-Ok.ensures t.1 in
     recon_unopened names c.args.settings.now head t.0 old (seen c.read_head.new.studio) (seen c.open_out.new.self) (seen c.open_out-2.new.self) read (sym c.has_too_many_slices.ensures ∙ c.if-has_too_many_slices.false) c.in-Ok-open_out.ensures c.in-Err-open_out-2.ensures
 
-pub returns-in-Err-encode_pictures : goal.returns-in-Err-encode_pictures
-returns-in-Err-encode_pictures g c =
+pub returns-in_err-encode_pictures : goal.returns-in_err-encode_pictures
+returns-in_err-encode_pictures g c =
     let seen = g.S.Studio.seen in
     let names = named c.args.input.now c.args.stream.now c.args.recon.now in
     let head = c.in-Ok-read_head.head in
@@ -84,7 +86,8 @@ returns-in-Err-encode_pictures g c =
     let old = seen c.args.studio.now in
     let read = head_read names c.args.settings.now head t.0 old (seen c.open_in.new.self) (seen c.read_head.new.studio) c.in-Ok-read_head.ensures.allowed c.in-Ok.ensures t.1 in
     let begun = both_open names c.args.settings.now head t.0 old (seen c.read_head.new.studio) (seen c.open_out.new.self) (seen c.open_out-2.new.self) read (sym c.has_too_many_slices.ensures ∙ c.if-has_too_many_slices.false) c.in-Ok-open_out.ensures c.in-Ok-open_out-2.ensures in
-    stopped names c.args.settings.now head t.0 old (seen c.open_out-2.new.self) (seen c.encode_pictures.new.studio) begun c.in-Err-encode_pictures.end c.in-Err-encode_pictures.ensures
+    handed_on (Leaves names c.args.settings.now old (seen c.encode_pictures.new.studio)) c.from_residual.result c.in_err-encode_pictures.field-0.0 c.from_residual.ensures.1
+    (stopped names c.args.settings.now head t.0 old (seen c.open_out-2.new.self) (seen c.encode_pictures.new.studio) begun c.in_err-encode_pictures.field-0.0 c.in_err-encode_pictures.ensures)
 
 pub returns : goal.returns
 returns g c =
@@ -95,4 +98,4 @@ returns g c =
     let old = seen c.args.studio.now in
     let read = head_read names c.args.settings.now head t.0 old (seen c.open_in.new.self) (seen c.read_head.new.studio) c.in-Ok-read_head.ensures.allowed c.in-Ok.ensures t.1 in
     let begun = both_open names c.args.settings.now head t.0 old (seen c.read_head.new.studio) (seen c.open_out.new.self) (seen c.open_out-2.new.self) read (sym c.has_too_many_slices.ensures ∙ c.if-has_too_many_slices.false) c.in-Ok-open_out.ensures c.in-Ok-open_out-2.ensures in
-    closing names c.args.settings.now head t.0 old (seen c.open_out-2.new.self) (seen c.encode_pictures.new.studio) (seen c.close_outputs.new.studio) c.requires.qp c.requires.slices begun c.in-Ok-encode_pictures.ensures c.close_outputs.result c.close_outputs.ensures
+    closing names c.args.settings.now head t.0 old (seen c.open_out-2.new.self) (seen c.encode_pictures.new.studio) (seen c.close_outputs.new.studio) c.requires.qp c.requires.slices begun c.in_ok-encode_pictures.ensures c.close_outputs.result c.close_outputs.ensures
