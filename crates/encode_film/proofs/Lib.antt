@@ -1,0 +1,8 @@
+pub mod Bytes
+pub mod Coding
+pub mod Deciding
+pub mod Going
+pub mod Growing
+pub mod Remaining
+pub mod Running
+pub mod Showing

@@ -1,0 +1,9 @@
+pub mod Answering
+pub mod Closing
+pub mod Films
+pub mod Leaving
+pub mod Limits
+pub mod Outputs
+pub mod Pictures
+pub mod Runs
+pub mod Showing

@@ -1,0 +1,12 @@
+//! The command `encode`: a film becomes a stream of IDR pictures, and the film that a decoder shows of it.
+#![tactic(auto)]
+
+mod closing;
+mod ends;
+mod pictures;
+mod run;
+mod unit_coder;
+
+pub use ends::{EncodeEnd, SettingFault};
+pub use run::encode;
+pub use unit_coder::UnitCoder;

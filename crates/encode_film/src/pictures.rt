@@ -1,0 +1,128 @@
+// The pictures of a film are encoded, one after another.
+ghost use Rattle.std.specs.Prelude.{◌≡◌, ◌≤◌, ◌/◌};
+ghost use Rattle.std.specs.List.{All};
+ghost use Rattle.bit_strings.specs.BitText.{BitText};
+ghost use Rattle.spec_bits.specs.Bits.{IsByte};
+ghost use Rattle.spec_film.specs.Films.{AllowedHead};
+ghost use Rattle.spec_stream.specs.Pictures.{IsPicture};
+ghost use Rattle.picture_planes.specs.Samples.{samples_of};
+ghost use Rattle.picture_planes.specs.Pictures.{planes_of};
+ghost use Rattle.y4m_film.specs.Sizes.{FitsHead};
+ghost use Rattle.encode_film.specs.Pictures.{EndLeft, PictureLeft, PicturesLeft};
+
+use crate::{EncodeEnd, UnitCoder};
+use bit_strings::BitBuf;
+use enc_edge::{Gate, Out, Studio, write_full};
+use picture_planes::{Picture, Plane};
+use spec_film::{FilmHead, InputFault};
+use spec_words::Settings;
+use y4m_film::{FrameFault, next_picture, put_head, put_picture};
+
+// The most pictures that a film may have.
+const MOST_PICTURES: u32 = 1_000_000;
+
+// Codes a picture, and writes its access unit and what a decoder shows of it.
+fn encode_picture<S: Studio, G: Gate + Sync, C: UnitCoder>(
+    studio: &mut S,
+    gate: &G,
+    head: &FilmHead,
+    settings: &Settings,
+    coder: &mut C,
+    number: u32,
+    source: &Picture,
+    unit: &mut BitBuf,
+) -> Result<(), EncodeEnd>
+    requires head { AllowedHead head.now }
+    requires coder { C.made_for coder.old head.now settings.now }
+    requires sizes { FitsHead head.now source.now }
+    requires room { unit.old.room ≡ 100000000 }
+    ensures coder { C.made_for coder.new head.now settings.now }
+    ensures room { unit.new.room ≡ 100000000 }
+    ensures left { PictureLeft head.now settings.now number (planes_of source.now) (S.seen studio.old) (S.seen studio.new) result }
+{
+    unit.clear();
+    match coder.code(gate, head, settings, number, source, unit) {
+        Ok(()) => {}
+        Err(_) => return Err(EncodeEnd::Long { picture: number }),
+    }
+    match write_full(studio, Out::Stream, unit.bytes()) {
+        Ok(()) => {}
+        Err(_) => return Err(EncodeEnd::Write(Out::Stream)),
+    }
+    match put_picture(studio, Out::Recon, coder.decoded()) {
+        Ok(()) => Ok(()),
+        Err(_) => Err(EncodeEnd::Write(Out::Recon)),
+    }
+}
+
+// Writes the head of the reconstruction, and encodes all pictures that are left.
+pub(crate) fn encode_pictures<S: Studio, G: Gate + Sync, C: UnitCoder>(
+    studio: &mut S,
+    gate: &G,
+    head: &FilmHead,
+    settings: &Settings,
+    coder: &mut C,
+    picture: &mut Picture,
+    unit: &mut BitBuf,
+) -> Result<(), EncodeEnd>
+    requires head { AllowedHead head.now }
+    requires coder { C.made_for coder.old head.now settings.now }
+    requires sizes { FitsHead head.now picture.old }
+    requires room { unit.old.room ≡ 100000000 }
+    ensures { PicturesLeft head.now settings.now (S.seen studio.old) (S.seen studio.new) result }
+{
+    match put_head(studio, Out::Recon, head) {
+        Ok(()) => {}
+        Err(_) => return Err(EncodeEnd::Write(Out::Recon)),
+    }
+    for number in 0..MOST_PICTURES {
+        match next_picture(studio, head, number, picture) {
+            Ok(true) => {}
+            Ok(false) => return Ok(()),
+            Err(FrameFault::ReadFault) => return Err(EncodeEnd::Read),
+            Err(FrameFault::Form) => return Err(EncodeEnd::Input(InputFault::Form)),
+        }
+        is_picture(head, picture);
+        encode_picture(studio, gate, head, settings, coder, number, picture, unit)?;
+    }
+    end_pictures(studio, head, picture)
+}
+
+// What stands in a slice of bytes is below 256.
+fn are_bytes(bytes: &[u8])
+    ensures { All IsByte bytes.now }
+{}
+
+fn has_bytes(plane: &Plane)
+    ensures { All IsByte (samples_of plane.now) }
+{
+    are_bytes(plane.rows_from(0, 0));
+}
+
+// A picture of the film's sizes is a picture of the film: its samples are bytes.
+fn is_picture(head: &FilmHead, picture: &Picture)
+    requires { FitsHead head.now picture.now }
+    ensures { IsPicture head.now (planes_of picture.now) }
+{
+    has_bytes(&picture.y);
+    has_bytes(&picture.cb);
+    has_bytes(&picture.cr);
+}
+
+// Behind the last picture that a film may have, the input has to end.
+fn end_pictures<S: Studio>(
+    studio: &mut S,
+    head: &FilmHead,
+    picture: &mut Picture,
+) -> Result<(), EncodeEnd>
+    requires head { AllowedHead head.now }
+    requires picture { FitsHead head.now picture.old }
+    ensures { EndLeft head.now (S.seen studio.old) (S.seen studio.new) result }
+{
+    match next_picture(studio, head, MOST_PICTURES, picture) {
+        Ok(true) => Err(EncodeEnd::Input(InputFault::Form)),
+        Ok(false) => Ok(()),
+        Err(FrameFault::ReadFault) => Err(EncodeEnd::Read),
+        Err(FrameFault::Form) => Err(EncodeEnd::Input(InputFault::Form)),
+    }
+}
