@@ -1,3 +1,4 @@
 pub mod Deciding
+pub mod Fitting
 pub mod Running
 pub mod Storing

@@ -15,8 +15,9 @@ use Rattle.spec_film.specs.declared.InputFault.TheVariants.{Form}
 use Rattle.spec_film.specs.Films.{AllowedHead, Film, Planes, FilmEnd, Ended, Faulty, most_pictures, pictures_of, read_head, film_of, film_from}
 use Rattle.spec_stream.specs.Stored.{stored_stream}
 use Rattle.spec_decoding.proofs.Stored.{stored_stream_decodes}
-use Rattle.encode_cli.specs.Pictures.{FirstPictures, PicturesEnd, PictureUnread, PictureUnwritten}
-use Rattle.encode_cli.specs.Runs.{reading, storing, FilmBegins, IsFilm, Stored, OpenFailed, ReadFault, in_head, in_pictures, WriteFault, NoFilm, no_head, cut_short}
+use Rattle.encode_film.specs.Films.{FirstPictures, FilmBegins, IsFilm}
+use Rattle.encode_cli.specs.Pictures.{PicturesEnd, PictureUnread, PictureUnwritten}
+use Rattle.encode_cli.specs.Runs.{reading, storing, Stored, OpenFailed, ReadFault, in_head, in_pictures, WriteFault, NoFilm, no_head, cut_short}
 
 -- the head that the first n bytes are
 abbrev pub HeadIs : FilmHead → ℕ → List ℕ → Type 0

@@ -25,7 +25,8 @@ use Rattle.spec_stream.proofs.StoredLaws.{stored_pictures-push}
 use Rattle.picture_planes.specs.declared.picture.Picture.{Picture}
 use Rattle.picture_planes.specs.Pictures.{SameShapes}
 use Rattle.y4m_film.specs.Sizes.{FitsHead}
-use Rattle.encode_cli.specs.Pictures.{FirstPictures, PicturesEnd, PictureUnread, PictureUnwritten, PicturesLeft, EndLeft}
+use Rattle.encode_film.specs.Films.{FirstPictures}
+use Rattle.encode_cli.specs.Pictures.{PicturesEnd, PictureUnread, PictureUnwritten, PicturesLeft, EndLeft}
 
 -- the pictures so far, and those that the bytes behind them have, are all pictures, and both end alike
 pub record Remains (head : FilmHead) (number n : ℕ) (pictures : List Planes) (left : List ℕ) : Type 0 where

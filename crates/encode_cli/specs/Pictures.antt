@@ -11,13 +11,9 @@ use Rattle.spec_film.specs.Films.{Planes, FilmEnd, Ended, Faulty, Broken, most_p
 use Rattle.std.specs.List.{All}
 use Rattle.spec_stream.specs.Pictures.{IsPicture}
 use Rattle.spec_stream.specs.Stored.{stored_stream}
+use Rattle.encode_film.specs.Films.{FirstPictures}
 use Rattle.encode_cli.specs.declared.store.StoreEnd.{StoreEnd}
 use Rattle.encode_cli.specs.declared.store.StoreEnd.TheVariants.{Read, Write, NoPicture}
-
--- the pictures are the first of those that the bytes have
-pub record FirstPictures (head : FilmHead) (pictures : List Planes) (left : List ℕ) : Type 0 where
-  pub others : List Planes
-  pub all : pictures ++ others ≡ (pictures_of most_pictures head left).0
 
 -- n bytes were taken and these pictures stored
 pub record PicturesStored (head : FilmHead) (n : ℕ) (pictures : List Planes) (old new : Seen) : Type 0 where

@@ -3,8 +3,9 @@ use Rattle.std.specs.Prelude.{ℕ, ◌≡◌, ◌++◌, List, [], take, drop, So
 use Rattle.enc_edge.specs.declared.studio.Out.TheVariants.{Stream, Recon, Report}
 use Rattle.enc_edge.specs.declared.studio.Place.{Place}
 use Rattle.enc_edge.specs.declared.studio.Place.TheVariants.{Input, Output}
-use Rattle.enc_edge.specs.Seen.{Seen, spot_at}
-use Rattle.enc_edge.specs.Calls.{Rose, OpeningFailed, LaterFailed, opened, shut, wrote, took}
+use Rattle.enc_edge.specs.Seen.{Seen}
+use Rattle.enc_edge.specs.Calls.{OpeningFailed, LaterFailed, opened, shut, wrote, took}
+use Rattle.encode_film.specs.Films.{FilmBegins, IsFilm}
 use Rattle.spec_film.specs.declared.FilmHead.{FilmHead}
 use Rattle.spec_film.specs.declared.InputFault.{InputFault}
 use Rattle.spec_film.specs.Films.{Planes, FilmEnd, Ended, Faulty, film_of}
@@ -18,18 +19,6 @@ reading input n old = took Input n (opened Input input old)
 -- the outside once, further, the stream stands open under its name and this text was written to it
 abbrev pub storing : List ℕ → List ℕ → ℕ → List ℕ → Seen → Seen
 storing input output n text old = wrote (Output Stream) text (opened (Output Stream) output (reading input n old))
-
--- the bytes begin as a film with this head, and these are the first of its pictures
-pub record FilmBegins (left : List ℕ) (head : FilmHead) (pictures : List Planes) : Type 0 where
-  pub head_is : (film_of left).head ≡ Some head
-  pub others : List Planes
-  pub pictures_are : pictures ++ others ≡ (film_of left).pictures
-
--- the bytes are a film with this head, these pictures and this end
-pub record IsFilm (left : List ℕ) (head : FilmHead) (pictures : List Planes) (end : FilmEnd) : Type 0 where
-  pub head_is : (film_of left).head ≡ Some head
-  pub pictures_are : (film_of left).pictures ≡ pictures
-  pub end_is : (film_of left).end ≡ end
 
 -- the run is closed: each fault number is as before, the stream stands shut under its name, the input open under its name, all else is as before.
 -- What was written is the stream that stores the pictures, and every decoder shows it as these pictures. Where the input's bytes are told, none is left of
@@ -75,8 +64,3 @@ pub data NoFilm (input output : List ℕ) (fault : InputFault) (old new : Seen) 
       → IfSome old.input.bytes (λ left. ((film_of left).head ≡ None) × ((film_of left).end ≡ Faulty fault)) → NoFilm input output fault old new
   cut_short : (n : ℕ) (head : FilmHead) (pictures : List Planes) → new ≡ storing input output n (stored_stream head pictures) old
       → IfSome old.input.bytes (λ left. IsFilm left head pictures (Faulty fault)) → NoFilm input output fault old new
-
--- nothing outside failed: no fault number rose
-pub record NoFault (old new : Seen) : Type 0 where
-  pub opening : (place : Place) → ¬ Rose (spot_at place old).opening (spot_at place new).opening
-  pub later : (place : Place) → ¬ Rose (spot_at place old).later (spot_at place new).later

@@ -1,23 +1,51 @@
--- The exit status and the printed line of each answer.
-use Rattle.std.specs.Prelude.{ℕ, List, [], ◌++◌, codes}
+-- What the end of an encoding is to the program; the exit status and the printed line of each answer.
+use Rattle.std.specs.Prelude.{ℕ, List, [], ◌++◌, codes, decimal, Result, Ok, Err}
+use Rattle.encode_film.specs.declared.ends.EncodeEnd.{EncodeEnd}
+use Rattle.encode_film.specs.declared.ends.EncodeEnd.TheVariants as ends
 use Rattle.encode_cli.specs.Names.{out_name, place_name}
 use Rattle.encode_cli.specs.declared.outcome.Outcome.{Outcome}
-use Rattle.encode_cli.specs.declared.outcome.Outcome.TheVariants.{Done, Words, Open, Read, Write, Input, OutOfMemory}
+use Rattle.encode_cli.specs.declared.outcome.Outcome.TheVariants.{Done, Words, Open, Read, Write, Input, Setting, Long, OutOfMemory}
+
+abbrev pub outcome_of : Result (Unit {0}) EncodeEnd → Outcome
+outcome_of (Ok done) = Done
+outcome_of (Err (ends.Open place)) = Open place
+outcome_of (Err ends.Read) = Read
+outcome_of (Err (ends.Write out)) = Write out
+outcome_of (Err (ends.Input fault)) = Input fault
+outcome_of (Err (ends.Setting fault)) = Setting fault
+outcome_of (Err (ends.Long picture)) = Long picture
+outcome_of (Err ends.OutOfMemory) = OutOfMemory
 
 abbrev pub status_of : Outcome → ℕ
 status_of Done = 0
 status_of (Words fault) = 2
 status_of (Input fault) = 3
+status_of (Setting fault) = 4
+status_of (Long picture) = 5
 status_of Read = 6
 status_of (Write out) = 7
 status_of (Open place) = 8
 status_of OutOfMemory = 9
 
+-- the line of an answer that has no number
+abbrev pub word_line : Outcome → List ℕ
+word_line Done = []
+word_line (Words fault) = codes "words refused"
+word_line (Input fault) = codes "input refused"
+word_line (Setting fault) = codes "setting refused"
+word_line (Long picture) = []
+word_line Read = codes "read failed"
+word_line (Write out) = codes "write failed: " ++ out_name out
+word_line (Open place) = codes "open failed: " ++ place_name place
+word_line OutOfMemory = codes "out of memory"
+
 -- without its line feed; empty where nothing is printed
 abbrev pub line_of : Outcome → List ℕ
+line_of (Long picture) = codes "picture " ++ (decimal picture ++ codes " too long")
 line_of Done = []
 line_of (Words fault) = codes "words refused"
 line_of (Input fault) = codes "input refused"
+line_of (Setting fault) = codes "setting refused"
 line_of Read = codes "read failed"
 line_of (Write out) = codes "write failed: " ++ out_name out
 line_of (Open place) = codes "open failed: " ++ place_name place

@@ -1,12 +1,13 @@
 //! The encoder's program: `run` does what the words of a command line ask, and `main` gives it the system's words and files.
 #![tactic(auto)]
 
+#[cfg(test)]
+mod encode_tests;
 mod outcome;
 mod run;
 mod store;
 #[cfg(test)]
 mod tests;
-mod words;
 
 use enc_edge::{OpenGate, RealStudio};
 use outcome::{Outcome, fault_line, status};

@@ -1,10 +1,12 @@
 // How a run ends, and what the program tells of it.
 ghost use Rattle.std.specs.Prelude.{◌≡◌, ◌≤◌, length};
-ghost use Rattle.encode_cli.specs.Told.{line_of, status_of};
+ghost use Rattle.encode_cli.specs.Told.{line_of, outcome_of, status_of, word_line};
 
-use crate::words::WordFault;
 use arrayvec::ArrayString;
 use enc_edge::{Out, Place};
+use encode_film::{EncodeEnd, SettingFault};
+use encode_words::WordFault;
+use itoa::Buffer;
 use spec_film::InputFault;
 
 /// How a run ends.
@@ -22,8 +24,31 @@ pub enum Outcome {
     Write(Out),
     /// The input isn't a film.
     Input(InputFault),
-    /// Memory was wanting. Nothing was written then.
+    /// A setting doesn't fit the film's head. No output was opened then.
+    Setting(SettingFault),
+    /// The access unit of a picture has more than 100,000,000 bits.
+    Long {
+        /// The number of the picture, counted from 0.
+        picture: u32,
+    },
+    /// Memory was wanting. No output was opened then.
     OutOfMemory,
+}
+
+/// What the end of an encoding is to the program.
+pub fn outcome_of(ended: Result<(), EncodeEnd>) -> Outcome
+    ensures { result ≡ outcome_of ended }
+{
+    match ended {
+        Ok(()) => Outcome::Done,
+        Err(EncodeEnd::Open(place)) => Outcome::Open(place),
+        Err(EncodeEnd::Read) => Outcome::Read,
+        Err(EncodeEnd::Write(out)) => Outcome::Write(out),
+        Err(EncodeEnd::Input(fault)) => Outcome::Input(fault),
+        Err(EncodeEnd::Setting(fault)) => Outcome::Setting(fault),
+        Err(EncodeEnd::Long { picture }) => Outcome::Long { picture },
+        Err(EncodeEnd::OutOfMemory) => Outcome::OutOfMemory,
+    }
 }
 
 /// The exit status.
@@ -34,6 +59,8 @@ pub fn status(outcome: &Outcome) -> u8
         Outcome::Done => 0,
         Outcome::Words(_) => 2,
         Outcome::Input(_) => 3,
+        Outcome::Setting(_) => 4,
+        Outcome::Long { .. } => 5,
         Outcome::Read => 6,
         Outcome::Write(_) => 7,
         Outcome::Open(_) => 8,
@@ -41,14 +68,16 @@ pub fn status(outcome: &Outcome) -> u8
     }
 }
 
+// The line of an answer that has no number; empty for the others.
 fn line_text(outcome: &Outcome) -> &'static str
-    ensures text { result.now ≡ line_of outcome.now }
+    ensures text { result.now ≡ word_line outcome.now }
     ensures short { length result.now ≤ 96 }
 {
     match outcome {
-        Outcome::Done => "",
+        Outcome::Done | Outcome::Long { .. } => "",
         Outcome::Words(_) => "words refused",
         Outcome::Input(_) => "input refused",
+        Outcome::Setting(_) => "setting refused",
         Outcome::Read => "read failed",
         Outcome::Write(Out::Stream) => "write failed: stream",
         Outcome::Write(Out::Recon) => "write failed: recon",
@@ -66,6 +95,13 @@ pub fn fault_line(outcome: &Outcome) -> ArrayString<96>
     ensures { result.bytes ≡ line_of outcome.now }
 {
     let mut line = ArrayString::new();
+    if let Outcome::Long { picture } = outcome {
+        let mut number = Buffer::new();
+        line.push_str("picture ");
+        line.push_str(number.format(*picture));
+        line.push_str(" too long");
+        return line;
+    }
     line.push_str(line_text(outcome));
     line
 }

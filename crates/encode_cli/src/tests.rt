@@ -1,8 +1,8 @@
 // Runs over a studio in memory and over files.
 use crate::outcome::Outcome;
 use crate::run::run;
-use crate::words::WordFault;
 use enc_edge::{MemStudio, OpenGate, Out, Place, RealStudio};
+use encode_words::WordFault;
 use spec_film::InputFault;
 use std::alloc::{AllocError, Global};
 use std::fs;
@@ -18,7 +18,7 @@ const BEGIN: [u8; 32] = [
 
 const REST: [u8; 385] = [0x80; 385];
 
-fn grey_film(alloc: Global) -> Result<Vec<u8>, AllocError> {
+pub fn grey_film(alloc: Global) -> Result<Vec<u8>, AllocError> {
     let mut film = Vec::new(alloc);
     film.extend_from_slice(b"YUV4MPEG2 W16 H16\nFRAME\n")?;
     film.extend_from_slice(&[0x80; 384])?;
@@ -44,9 +44,9 @@ fn a_grey_picture(rt: HostRuntime) -> Result<(), Fail> {
 fn refused_words(rt: HostRuntime) -> Result<(), Fail> {
     let alloc = rt.alloc();
     let mut studio = MemStudio::new(alloc, grey_film(alloc)?, 1000, 4096, Vec::new(alloc))?;
-    let swapped = ["store", "--out", "a", "--in", "b"];
+    let lone = ["store", "--out", "a", "--in"];
     assert_eq!(rt;
-        run(&rt, &swapped, &mut studio, &OpenGate),
+        run(&rt, &lone, &mut studio, &OpenGate),
         Outcome::Words(WordFault::Form)
     );
     assert_eq!(rt;

@@ -1,0 +1,95 @@
+// Encodings over a studio in memory.
+use crate::outcome::{Outcome, fault_line, status};
+use crate::run::run;
+use crate::tests::grey_film;
+use enc_edge::{MemStudio, OpenGate, Out, Place};
+use encode_film::SettingFault;
+use spec_film::InputFault;
+use std::test::Fail;
+
+const WORDS: [&str; 7] = [
+    "encode", "--in", "film", "--out", "stream", "--recon", "recon",
+];
+
+// A grey picture of 16 by 16 samples: the parameter sets, and a slice of one macroblock without residual.
+const UNIT: [u8; 36] = [
+    0x00, 0x00, 0x00, 0x01, 0x67, 0x64, 0x00, 0x33, 0xAC, 0x1B, 0x1A, 0x9E, 0x40, 0x00, 0x00, 0x00,
+    0x01, 0x68, 0xEE, 0x38, 0xB0, 0x00, 0x00, 0x01, 0x65, 0x88, 0x80, 0x00, 0x40, 0x00, 0x02, 0xFF,
+    0xFE, 0xD6, 0xDF, 0x80,
+];
+
+const HEAD: &[u8] = b"YUV4MPEG2 W16 H16 F25:1 Ip C420\n";
+
+fn is_grey_recon(bytes: &[u8]) -> bool {
+    bytes.len() == HEAD.len() + 390 && bytes.starts_with(HEAD) && bytes.ends_with(&[0x80; 384])
+}
+
+#[test]
+fn a_grey_picture_encoded(rt: HostRuntime) -> Result<(), Fail> {
+    let alloc = rt.alloc();
+    let mut studio = MemStudio::new(alloc, grey_film(alloc)?, 1000, 4096, Vec::new(alloc))?;
+    assert_eq!(rt; run(&rt, &WORDS, &mut studio, &OpenGate), Outcome::Done);
+    assert_eq!(rt; studio.written(Out::Stream), UNIT.as_slice());
+    assert!(rt; is_grey_recon(studio.written(Out::Recon)));
+    assert_eq!(rt; studio.written(Out::Report).len(), 0);
+    Ok(())
+}
+
+#[test]
+fn too_many_slices(rt: HostRuntime) -> Result<(), Fail> {
+    let alloc = rt.alloc();
+    let mut studio = MemStudio::new(alloc, grey_film(alloc)?, 1000, 4096, Vec::new(alloc))?;
+    let words = [
+        "encode", "--in", "film", "--out", "stream", "--recon", "recon", "--slices", "2",
+    ];
+    let outcome = run(&rt, &words, &mut studio, &OpenGate);
+    assert_eq!(rt; outcome, Outcome::Setting(SettingFault::Slices));
+    assert_eq!(rt; status(&outcome), 4);
+    assert_eq!(rt; fault_line(&outcome).as_str(), "setting refused");
+    assert_eq!(rt; studio.written(Out::Stream).len(), 0);
+    Ok(())
+}
+
+#[test]
+fn a_film_cut_in_its_second_picture(rt: HostRuntime) -> Result<(), Fail> {
+    let alloc = rt.alloc();
+    let mut film = grey_film(alloc)?;
+    film.extend_from_slice(b"FRAME\n\x80\x80")?;
+    let mut studio = MemStudio::new(alloc, film, 1000, 4096, Vec::new(alloc))?;
+    assert_eq!(rt;
+        run(&rt, &WORDS, &mut studio, &OpenGate),
+        Outcome::Input(InputFault::Form)
+    );
+    assert_eq!(rt; studio.written(Out::Stream), UNIT.as_slice());
+    assert!(rt; is_grey_recon(studio.written(Out::Recon)));
+    Ok(())
+}
+
+#[test]
+fn places_in_order(rt: HostRuntime) -> Result<(), Fail> {
+    let alloc = rt.alloc();
+    // The input is opened, 18 bytes of its head are read, and then the outputs are opened.
+    for (call, place) in [
+        (0, Place::Input),
+        (19, Place::Output(Out::Stream)),
+        (20, Place::Output(Out::Recon)),
+    ] {
+        let failing = [call].to_vec(alloc)?;
+        let mut studio = MemStudio::new(alloc, grey_film(alloc)?, 1000, 4096, failing)?;
+        assert_eq!(rt;
+            run(&rt, &WORDS, &mut studio, &OpenGate),
+            Outcome::Open(place)
+        );
+        assert_eq!(rt; studio.written(Out::Stream).len(), 0);
+        assert_eq!(rt; studio.written(Out::Recon).len(), 0);
+    }
+    Ok(())
+}
+
+#[test]
+fn the_line_of_a_long_picture(rt: HostRuntime) -> Result<(), Fail> {
+    let long = Outcome::Long { picture: 4_294_967_295 };
+    assert_eq!(rt; status(&long), 5);
+    assert_eq!(rt; fault_line(&long).as_str(), "picture 4294967295 too long");
+    Ok(())
+}
