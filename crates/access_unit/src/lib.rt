@@ -2,5 +2,7 @@
 #![tactic(auto)]
 
 mod sets;
+mod unit;
 
 pub use sets::write_parameter_sets;
+pub use unit::{code_access_unit, job_of};

@@ -1,0 +1,91 @@
+// A whole access unit.
+ghost use Rattle.std.specs.Prelude.{◌≡◌, ◌≤◌, ◌+◌, ◌-◌, ◌%◌, length, true, OnOk};
+ghost use Rattle.enc_tables.specs.declared.SliceKind.TheVariants.{I};
+ghost use Rattle.picture_planes.specs.Pictures.{planes_of, SameShapes};
+ghost use Rattle.bit_strings.specs.BitText.{Appends};
+ghost use Rattle.spec_bits.specs.Bits.{bits_of_bytes};
+ghost use Rattle.spec_film.specs.Films.{AllowedHead};
+ghost use Rattle.spec_stream.specs.Decode.{across_of, down_of};
+ghost use Rattle.spec_encoding.specs.Frames.{picture_of};
+ghost use Rattle.spec_encoding.specs.Coding.{coded_picture};
+ghost use Rattle.spec_encoding.specs.Encoding.{sequence_of, settled, encoded_picture};
+ghost use Rattle.picture_coder.specs.Coders.{IsMadeFor, HasPlans, OnlyPictureDiffers};
+
+use crate::sets::write_parameter_sets;
+use bit_strings::{BitBuf, Full};
+use enc_tables::{PlanStep, SliceKind};
+use picture_coder::{Job, PictureCoder};
+use picture_planes::Picture;
+use spec_film::FilmHead;
+use spec_words::Settings;
+
+/// The picture of this number, counted from 0, as an IDR picture of intra macroblocks. Its idr_pic_id is not that of the picture before.
+pub fn job_of<'a>(settings: &Settings, number: u32, source: &'a Picture) -> Job<'a>
+    ensures source { result.source.now ≡ source.now }
+    ensures intra { result.step.kind ≡ I }
+    ensures idr { result.step.idr ≡ true }
+    ensures idr_id { result.idr_id ≡ number % 2 }
+    ensures slices { result.slices ≡ settings.now.slices }
+    ensures t8x8 { result.t8x8 ≡ settings.now.t8x8 }
+{
+    let step = PlanStep {
+        display: number,
+        kind: SliceKind::I,
+        idr: true,
+        frame_num: 0,
+        poc: 0,
+    };
+    Job {
+        source,
+        step,
+        idr_id: (number % 2) as u8,
+        slices: settings.slices,
+        t8x8: settings.t8x8,
+    }
+}
+
+/// Codes the picture of this number, counted from 0, by the plans that the coder has made of it (`PictureCoder::plan` of `job_of`), and
+/// appends its access unit: its parameter sets and the units of its slices. Its quantisation parameter is two below the one of the
+/// settings, and at least 0. The coder's decoded picture is then the one that a decoder shows, not cropped.
+///
+/// `payload` is room for the payload of a parameter set, 4096 bits at least; what it holds afterwards isn't told.
+///
+/// `Full` comes exactly where the access unit doesn't fit the room of `out`, which is then as before.
+pub fn code_access_unit<R>(
+    rt: &R,
+    coder: &mut PictureCoder,
+    head: &FilmHead,
+    settings: &Settings,
+    number: u32,
+    source: &Picture,
+    payload: &mut BitBuf,
+    out: &mut BitBuf,
+) -> Result<(), Full>
+    requires head { AllowedHead head.now }
+    requires qp { settings.now.qp ≤ 51 }
+    requires made { IsMadeFor coder.old head.now.width head.now.height settings.now.slices }
+    requires source { SameShapes coder.old.picture source.now }
+    requires planned { HasPlans coder.old settings.now.t8x8 (planes_of source.now) }
+    requires payload { 4096 ≤ payload.old.room }
+    requires room { out.old.room ≤ length out.old.text + coder.old.room }
+    requires whole { length out.old.text % 8 ≡ 0 }
+    ensures unit { Appends out.old out.new (bits_of_bytes (encoded_picture head.now settings.now number (planes_of source.now))) result }
+    ensures decoded { OnOk result (planes_of coder.new.picture ≡ picture_of (across_of (sequence_of head.now)) (down_of (sequence_of head.now)) (coded_picture (settled head.now settings.now) number (planes_of source.now))) }
+    ensures others { OnlyPictureDiffers coder.old coder.new }
+    ensures made { IsMadeFor coder.new head.now.width head.now.height settings.now.slices }
+    ensures payload { payload.new.room ≡ payload.old.room }
+{
+    let start = out.len();
+    if write_parameter_sets(head, settings.t8x8, payload, out).is_err() {
+        return Err(Full);
+    }
+    let job = job_of(settings, number, source);
+    if coder
+        .code(rt, &job, settings.qp.saturating_sub(2), out)
+        .is_err()
+    {
+        out.cut(start);
+        return Err(Full);
+    }
+    Ok(())
+}
