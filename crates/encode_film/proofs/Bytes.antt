@@ -1,6 +1,6 @@
 -- What is written are bytes, and the pictures of a film are bytes.
-use Rattle.std.proofs.Common.{ℕ, zero, suc, ◌+◌, ◌*◌, ◌/◌, ◌%◌, ◌≡◌, ◌≤◌, ◌<◌, Bool, true, false, List, [], ◌∷◌, ◌++◌, length, take, drop, map, slice_range, refl, ap, ap₂, sym, ◌∙◌, subst, arith, append_assoc, append-nil, mul_comm, lit<, lit≤}
-use Rattle.std.specs.List.{All, flat_map}
+use Rattle.std.proofs.Common.{ℕ, zero, suc, ◌+◌, ◌*◌, ◌/◌, ◌%◌, ◌≡◌, Bool, true, false, List, [], ◌∷◌, drop, map, ap, ap₂, sym, ◌∙◌, subst, arith, mul_comm, lit≤}
+use Rattle.std.specs.List.{All}
 use Rattle.std.proofs.lemmas.List.Elements.{All-nil, All-append, All-take, All-drop}
 use Rattle.spec_bits.specs.Bits.{IsByte, bits_of_bytes, bytes_of_bits}
 use Rattle.spec_bits.proofs.Digits.{bytes_of_bits-bits_of_bytes, bytes_of_bits-are_bytes}
@@ -8,20 +8,20 @@ use Rattle.spec_bits.proofs.Payloads.{unit_bytes-are_bytes}
 use Rattle.spec_bits.specs.Heads.{sequence_payload, picture_payload}
 use Rattle.spec_bits.specs.Units.{unit_bytes}
 use Rattle.spec_film.specs.declared.FilmHead.{FilmHead}
-use Rattle.spec_film.specs.Films.{Planes, AllowedHead, luma_count, chroma_count}
+use Rattle.spec_film.specs.Films.{Planes, AllowedHead}
 use Rattle.spec_words.specs.declared.Settings.{Settings}
 use Rattle.spec_slice_layer.specs.Layer.{Format, Slice, layer_payload}
 use Rattle.spec_stream.specs.Decode.{across_of, down_of}
 use Rattle.spec_stream.specs.Pictures.{IsPicture}
 use Rattle.spec_stream.specs.Samples.{cropped, cropped_plane}
 use Rattle.spec_stream.proofs.PlaneLaws.{cropped_all}
-use Rattle.spec_pictures.specs.Coded.{CodedSlice, slice_units, picture_units}
+use Rattle.spec_pictures.specs.Coded.{slice_units, picture_units}
 use Rattle.spec_encoding.specs.Frames.{format_of, picture_of}
 use Rattle.spec_encoding.specs.Coding.{coded_picture}
 use Rattle.spec_encoding.specs.Encoding.{sequence_of, settled, with_payload, coded_with_payloads, encoded_picture, reconstructed}
 use Rattle.picture_planes.specs.declared.plane.Plane.{Plane}
 use Rattle.picture_planes.specs.declared.picture.Picture.{Picture}
-use Rattle.picture_planes.specs.Samples.{row_start, row_of, rows_to, samples_of}
+use Rattle.picture_planes.specs.Samples.{row_of, rows_to, samples_of}
 use Rattle.picture_planes.specs.Pictures.{planes_of}
 use Rattle.picture_planes.proofs.SampleLaws.{samples_length}
 use Rattle.y4m_film.specs.Sizes.{FitsHead}

@@ -1,5 +1,5 @@
 -- The film and the settings alone decide the end where nothing outside fails.
-use Rattle.std.proofs.Common.{ℕ, ◌≡◌, Bool, true, false, inl, inr, List, [], ◌∷◌, ◌++◌, Option, Some, None, refl, ap, ap₂, sym, ◌∙◌, subst, append-nil, if◌then◌else◌}
+use Rattle.std.proofs.Common.{ℕ, ◌≡◌, Bool, true, false, inl, inr, List, [], ◌∷◌, ◌++◌, Option, Some, None, refl, ap, ap₂, sym, ◌∙◌, subst, if◌then◌else◌}
 use Rattle.std.specs.Prelude.{IfSome, Result, Ok, Err}
 use Rattle.enc_edge.specs.declared.studio.Out.{Out}
 use Rattle.enc_edge.specs.declared.studio.Out.TheVariants.{Stream, Recon, Report}
@@ -20,7 +20,7 @@ use Rattle.encode_film.specs.Films.{FilmBegins, IsFilm}
 use Rattle.encode_film.specs.Leaving.{Leaves}
 use Rattle.encode_film.specs.Limits.{too_many_slices, first_long}
 use Rattle.encode_film.specs.Outputs.{Names}
-use Rattle.encode_film.specs.Runs.{Allowed, Encoded, OpenFailed, ReadFault, in_head, in_pictures, WriteFault, head_cut, picture_cut, closing_stream, closing_recon, NoFilm, no_head, cut_short, SlicesRefused, TooLong, NoFault}
+use Rattle.encode_film.specs.Runs.{Allowed, OpenFailed, ReadFault, in_head, in_pictures, WriteFault, head_cut, picture_cut, closing_stream, closing_recon, NoFilm, no_head, cut_short, TooLong, NoFault}
 use Rattle.encode_film.proofs.Growing.{long_there}
 
 -- CAUSES

@@ -1,35 +1,30 @@
 -- The loop that encodes pictures.
-use Rattle.std.proofs.Common.{ℕ, zero, suc, ◌+◌, ◌-◌, ◌≡◌, ◌<◌, ◌≤◌, List, [], ◌∷◌, ◌++◌, length, take, drop, Option, Some, None, refl, ap, ap₂, sym, ◌∙◌, subst, arith, append-nil, length-append}
-use Rattle.std.specs.Prelude.{IfSome, All, Result, Ok, Err, Bool, true, false}
+use Rattle.std.proofs.Common.{ℕ, ◌+◌, ◌-◌, ◌≡◌, ◌<◌, List, [], ◌∷◌, ◌++◌, length, drop, None, refl, ap, ap₂, sym, ◌∙◌, subst, arith, length-append}
+use Rattle.std.specs.Prelude.{IfSome, All, Result, Ok, Err, true, false}
 use Rattle.std.specs.Result.{IsErrAnd}
-use Rattle.std.proofs.Math.Seq.{take-append-add}
-use Rattle.std.proofs.lemmas.Grind.{common_steps}
 use Rattle.std.proofs.lemmas.List.Elements.{All-nil, All-cons, All-append}
 use Rattle.std.specs.Option.{option_map}
-use Rattle.enc_edge.specs.declared.studio.Out.{Out}
-use Rattle.enc_edge.specs.declared.studio.Out.TheVariants.{Stream, Recon, Report}
+use Rattle.enc_edge.specs.declared.studio.Out.TheVariants.{Stream, Recon}
 use Rattle.enc_edge.specs.declared.studio.Place.TheVariants as places
 use Rattle.enc_edge.specs.Seen.{Seen}
-use Rattle.enc_edge.specs.Calls.{took, wrote, LaterFailed}
+use Rattle.enc_edge.specs.Calls.{took, wrote}
 use Rattle.enc_edge.specs.Reads.{Took, TookSome, ReadFailed}
 use Rattle.enc_edge.proofs.Spots.{took_more, took_none, wrote_none, wrote_more}
 use Rattle.y4m_film.specs.Sizes.{FitsHead}
-use Rattle.y4m_film.specs.Writes.{FrontWritten}
 use Rattle.picture_planes.specs.declared.picture.Picture.{Picture}
 use Rattle.picture_planes.specs.Pictures.{SameShapes}
 use Rattle.spec_film.specs.declared.FilmHead.{FilmHead}
 use Rattle.spec_film.specs.declared.InputFault.TheVariants.{Form}
-use Rattle.spec_film.specs.Films.{Planes, FilmEnd, Ended, Faulty, Next, Broken, most_pictures, frame_step, pictures_of}
+use Rattle.spec_film.specs.Films.{Planes, Ended, Faulty, Next, Broken, most_pictures, frame_step}
 use Rattle.spec_film.specs.Written.{head_text, picture_text}
 use Rattle.spec_words.specs.declared.Settings.{Settings}
 use Rattle.spec_stream.specs.Pictures.{IsPicture}
 use Rattle.spec_encoding.specs.Encoding.{encoded_picture, encoded_stream, reconstructed}
 use Rattle.encode_film.specs.declared.ends.EncodeEnd.{EncodeEnd}
 use Rattle.encode_film.specs.declared.ends.EncodeEnd.TheVariants.{Open, Read, Write, Input, Setting, Long, OutOfMemory}
-use Rattle.encode_film.specs.Films.{FirstPictures}
 use Rattle.encode_film.specs.Limits.{is_long, first_long}
 use Rattle.encode_film.specs.Outputs.{written, shown_film, PictureCut}
-use Rattle.encode_film.specs.Pictures.{PictureEncoded, PictureLeft, PicturesEncoded, PicturesEnd, PictureRead, PictureUnread, PictureUnwritten, cut_picture, PictureTooLong, PicturesLeft, EndLeft}
+use Rattle.encode_film.specs.Pictures.{PictureEncoded, PictureLeft, PicturesEnd, PictureRead, PictureUnread, cut_picture, PicturesLeft, EndLeft}
 use Rattle.encode_film.proofs.Growing.{stream_push, film_push, stream_none, film_none, first_none, short_push}
 use Rattle.encode_film.proofs.Remaining.{Remains, remains_none, first_of, remains_more, remains_over, none_left, remains_broken}
 

@@ -1,7 +1,5 @@
 -- What the calls of a run make together.
-use Rattle.std.proofs.Common.{ℕ, ◌+◌, ◌≤◌, ◌≡◌, Bool, true, false, List, [], ◌∷◌, ◌++◌, length, take, drop, Option, Some, None, refl, ap, sym, ◌∙◌, subst, arith, append-nil}
-use Rattle.std.proofs.lemmas.Grind.{common_steps}
-use Rattle.std.specs.List.{All}
+use Rattle.std.proofs.Common.{ℕ, ◌+◌, ◌≤◌, ◌≡◌, true, false, List, [], ◌∷◌, ◌++◌, length, drop, Option, Some, None, refl, ap, sym, ◌∙◌, subst, append-nil}
 use Rattle.std.specs.Prelude.{IfSome, Result, Ok, Err}
 use Rattle.std.specs.Option.{option_map}
 use Rattle.enc_edge.specs.declared.studio.Out.{Out}
@@ -18,17 +16,16 @@ use Rattle.spec_film.specs.declared.InputFault.TheVariants.{Form}
 use Rattle.spec_film.specs.Films.{AllowedHead, Film, Planes, FilmEnd, Ended, Faulty, most_pictures, pictures_of, read_head, film_of, film_from}
 use Rattle.spec_film.specs.Written.{head_text}
 use Rattle.spec_words.specs.declared.Settings.{Settings}
-use Rattle.spec_stream.specs.Pictures.{IsPicture}
-use Rattle.spec_encoding.specs.Encoding.{encoded_stream, reconstruction}
+use Rattle.spec_encoding.specs.Encoding.{encoded_stream}
 use Rattle.encode_film.specs.declared.ends.EncodeEnd.{EncodeEnd}
 use Rattle.encode_film.specs.declared.ends.EncodeEnd.TheVariants.{Open, Read, Write, Input, Setting, Long, OutOfMemory}
 use Rattle.encode_film.specs.Closing.{ClosedLeft}
 use Rattle.encode_film.specs.Films.{FilmBegins, IsFilm, FirstPictures}
 use Rattle.encode_film.specs.Leaving.{Leaves}
-use Rattle.encode_film.specs.Limits.{too_many_slices, first_long}
+use Rattle.encode_film.specs.Limits.{too_many_slices}
 use Rattle.encode_film.specs.Outputs.{Names, shown_film, written, reading, all_open, encoding}
 use Rattle.encode_film.specs.Pictures.{PicturesEnd, PictureRead, PictureUnread, PictureUnwritten, cut_head, cut_picture, PictureTooLong, PicturesLeft}
-use Rattle.encode_film.specs.Runs.{Allowed, Encoded, OpenFailed, EncodedSoFar, ReadFault, in_head, in_pictures, HeadRead, NextRead, AllEncoded, WriteFault, head_cut, picture_cut, closing_stream, closing_recon, NoFilm, no_head, cut_short, SlicesRefused, TooLong}
+use Rattle.encode_film.specs.Runs.{Encoded, OpenFailed, ReadFault, in_head, in_pictures, HeadRead, NextRead, AllEncoded, WriteFault, head_cut, picture_cut, closing_stream, closing_recon, NoFilm, no_head, cut_short, SlicesRefused, TooLong}
 use Rattle.encode_film.proofs.Showing.{shows, reads}
 
 -- the head that the first n bytes are

@@ -1,15 +1,14 @@
 -- What the loop over the pictures does to the outside, once all places stand open.
-use Rattle.std.specs.Prelude.{ℕ, ◌≡◌, ◌≤◌, ◌++◌, true, false, List, [], ◌∷◌, length, take, drop, None, IfSome, Result, Ok, Err}
+use Rattle.std.specs.Prelude.{ℕ, ◌≡◌, ◌++◌, true, false, List, [], ◌∷◌, length, drop, None, IfSome, Result, Ok, Err}
 use Rattle.std.specs.List.{All}
 use Rattle.enc_edge.specs.declared.studio.Out.{Out}
-use Rattle.enc_edge.specs.declared.studio.Out.TheVariants.{Stream, Recon, Report}
+use Rattle.enc_edge.specs.declared.studio.Out.TheVariants.{Stream, Recon}
 use Rattle.enc_edge.specs.declared.studio.Place.TheVariants as places
 use Rattle.enc_edge.specs.Seen.{Seen}
-use Rattle.enc_edge.specs.Calls.{LaterFailed, wrote, took}
+use Rattle.enc_edge.specs.Calls.{LaterFailed, wrote}
 use Rattle.enc_edge.specs.Reads.{Took, TookSome, ReadFailed}
 use Rattle.y4m_film.specs.Writes.{FrontWritten}
 use Rattle.spec_film.specs.declared.FilmHead.{FilmHead}
-use Rattle.spec_film.specs.declared.InputFault.{InputFault}
 use Rattle.spec_film.specs.declared.InputFault.TheVariants.{Form}
 use Rattle.spec_film.specs.Films.{Planes, FilmEnd, Ended, Faulty, Broken, most_pictures, frame_step, pictures_of}
 use Rattle.spec_film.specs.Written.{head_text, picture_text}

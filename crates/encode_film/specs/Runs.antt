@@ -1,5 +1,5 @@
 -- What a run of `encode` does to the outside.
-use Rattle.std.specs.Prelude.{ℕ, ◌≡◌, ◌≤◌, ◌++◌, Bool, true, false, List, [], ◌∷◌, length, take, drop, Some, None, IfSome}
+use Rattle.std.specs.Prelude.{ℕ, ◌≡◌, ◌++◌, true, false, List, [], ◌∷◌, length, drop, Some, None, IfSome}
 use Rattle.enc_edge.specs.declared.studio.Out.{Out}
 use Rattle.enc_edge.specs.declared.studio.Out.TheVariants.{Stream, Recon, Report}
 use Rattle.enc_edge.specs.declared.studio.Place.{Place}
@@ -9,7 +9,7 @@ use Rattle.enc_edge.specs.Calls.{Rose, OpeningFailed, LaterFailed, opened, shut}
 use Rattle.y4m_film.specs.Writes.{FrontWritten}
 use Rattle.spec_film.specs.declared.FilmHead.{FilmHead}
 use Rattle.spec_film.specs.declared.InputFault.{InputFault}
-use Rattle.spec_film.specs.Films.{Planes, FilmEnd, Ended, Faulty, film_of}
+use Rattle.spec_film.specs.Films.{Planes, Ended, Faulty, film_of}
 use Rattle.spec_film.specs.Written.{head_text}
 use Rattle.spec_words.specs.declared.Settings.{Settings}
 use Rattle.spec_encoding.specs.Encoding.{encoded_stream, reconstruction}

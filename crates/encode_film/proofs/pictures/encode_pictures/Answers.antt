@@ -1,4 +1,4 @@
-use Rattle.std.proofs.Common.{◌≡◌, ◌≤◌, ◌-◌, ap, subst, length, drop, Ok, Err, arith}
+use Rattle.std.proofs.Common.{◌≡◌, ◌≤◌, ◌-◌, ap, length, drop, Ok, Err, arith}
 use Rattle.spec_film.specs.Films.{Next, most_pictures, frame_step}
 use Rattle.picture_planes.specs.Pictures.{planes_of}
 use Rattle.encode_film.specs.Pictures.{cut_head, PicturesLeft}
