@@ -251,7 +251,7 @@ encoded names settings head n old mid last new qp some b e is =
       pictures = e.pictures;
       closed = is ∙ ap (λ (s : Seen). shut (places.Output Recon) (shut (places.Output Stream) s)) (from_start names settings head n e.count e.pictures old mid last b e.change);
       shows = shows head settings e.pictures b.allowed qp some b.few e.are;
-      reads = reads head settings 0 e.pictures b.allowed qp some b.few e.are;
+      reads = reads head settings e.pictures b.allowed qp some b.few e.are;
       allowed = record { few = b.few; short = e.short };
       whole = all.whole;
     }

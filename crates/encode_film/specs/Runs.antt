@@ -16,7 +16,8 @@ use Rattle.spec_encoding.specs.Encoding.{encoded_stream, reconstruction}
 use Rattle.encode_film.specs.Films.{FilmBegins, IsFilm}
 use Rattle.encode_film.specs.Limits.{too_many_slices, is_long, first_long}
 use Rattle.encode_film.specs.Outputs.{Names, reading, all_open, encoding, PictureCut}
-use Rattle.encode_film.specs.Showing.{Shows, ReadChoices}
+use Rattle.encode_film.specs.Showing.{Shows, Reads}
+use Rattle.spec_decoding.specs.Encodings.{coded_pictures}
 
 -- nothing of the film up to here is refused: a picture has few enough slices, and no access unit of these pictures is too long
 pub record Allowed (head : FilmHead) (settings : Settings) (pictures : List Planes) : Type 0 where
@@ -32,7 +33,7 @@ pub record Encoded (names : Names) (settings : Settings) (old new : Seen) : Type
   pub pictures : List Planes
   pub closed : new ≡ shut (Output Recon) (shut (Output Stream) (encoding names head settings pictures count old))
   pub shows : Shows (encoded_stream head settings pictures) (reconstruction head settings 0 pictures)
-  pub reads : ReadChoices head settings 0 pictures
+  pub reads : Reads (encoded_stream head settings pictures) (coded_pictures head settings 0 pictures)
   pub allowed : Allowed head settings pictures
   pub whole : IfSome old.input.bytes (λ left. (drop count left ≡ []) × IsFilm left head pictures Ended)
 

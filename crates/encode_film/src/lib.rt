@@ -5,10 +5,7 @@ mod closing;
 mod ends;
 mod pictures;
 mod run;
-#[cfg(test)]
-mod tests;
 mod unit_coder;
 
 pub use ends::{EncodeEnd, SettingFault};
 pub use run::encode;
-pub use unit_coder::UnitCoder;

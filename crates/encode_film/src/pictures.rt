@@ -8,9 +8,11 @@ ghost use Rattle.spec_stream.specs.Pictures.{IsPicture};
 ghost use Rattle.picture_planes.specs.Samples.{samples_of};
 ghost use Rattle.picture_planes.specs.Pictures.{planes_of};
 ghost use Rattle.y4m_film.specs.Sizes.{FitsHead};
+ghost use Rattle.encode_film.specs.Coders.{IsMadeFor};
 ghost use Rattle.encode_film.specs.Pictures.{EndLeft, PictureLeft, PicturesLeft};
 
-use crate::{EncodeEnd, UnitCoder};
+use crate::EncodeEnd;
+use crate::unit_coder::UnitCoder;
 use bit_strings::BitBuf;
 use enc_edge::{Gate, Out, Studio, write_full};
 use picture_planes::{Picture, Plane};
@@ -22,26 +24,28 @@ use y4m_film::{FrameFault, next_picture, put_head, put_picture};
 const MOST_PICTURES: u32 = 1_000_000;
 
 // Codes a picture, and writes its access unit and what a decoder shows of it.
-fn encode_picture<S: Studio, G: Gate + Sync, C: UnitCoder>(
+fn encode_picture<R, S: Studio, G: Gate + Sync>(
+    rt: &R,
     studio: &mut S,
     gate: &G,
     head: &FilmHead,
     settings: &Settings,
-    coder: &mut C,
+    coder: &mut UnitCoder,
     number: u32,
     source: &Picture,
     unit: &mut BitBuf,
 ) -> Result<(), EncodeEnd>
     requires head { AllowedHead head.now }
-    requires coder { C.made_for coder.old head.now settings.now }
+    requires qp { settings.now.qp ≤ 51 }
+    requires coder { IsMadeFor coder.old head.now settings.now }
     requires sizes { FitsHead head.now source.now }
     requires room { unit.old.room ≡ 100000000 }
-    ensures coder { C.made_for coder.new head.now settings.now }
+    ensures coder { IsMadeFor coder.new head.now settings.now }
     ensures room { unit.new.room ≡ 100000000 }
     ensures left { PictureLeft head.now settings.now number (planes_of source.now) (S.seen studio.old) (S.seen studio.new) result }
 {
     unit.clear();
-    match coder.code(gate, head, settings, number, source, unit) {
+    match coder.code(rt, gate, head, settings, number, source, unit) {
         Ok(()) => {}
         Err(_) => return Err(EncodeEnd::Long { picture: number }),
     }
@@ -56,17 +60,19 @@ fn encode_picture<S: Studio, G: Gate + Sync, C: UnitCoder>(
 }
 
 // Writes the head of the reconstruction, and encodes all pictures that are left.
-pub(crate) fn encode_pictures<S: Studio, G: Gate + Sync, C: UnitCoder>(
+pub(crate) fn encode_pictures<R, S: Studio, G: Gate + Sync>(
+    rt: &R,
     studio: &mut S,
     gate: &G,
     head: &FilmHead,
     settings: &Settings,
-    coder: &mut C,
+    coder: &mut UnitCoder,
     picture: &mut Picture,
     unit: &mut BitBuf,
 ) -> Result<(), EncodeEnd>
     requires head { AllowedHead head.now }
-    requires coder { C.made_for coder.old head.now settings.now }
+    requires qp { settings.now.qp ≤ 51 }
+    requires coder { IsMadeFor coder.old head.now settings.now }
     requires sizes { FitsHead head.now picture.old }
     requires room { unit.old.room ≡ 100000000 }
     ensures { PicturesLeft head.now settings.now (S.seen studio.old) (S.seen studio.new) result }
@@ -83,7 +89,7 @@ pub(crate) fn encode_pictures<S: Studio, G: Gate + Sync, C: UnitCoder>(
             Err(FrameFault::Form) => return Err(EncodeEnd::Input(InputFault::Form)),
         }
         is_picture(head, picture);
-        encode_picture(studio, gate, head, settings, coder, number, picture, unit)?;
+        encode_picture(rt, studio, gate, head, settings, coder, number, picture, unit)?;
     }
     end_pictures(studio, head, picture)
 }

@@ -10,13 +10,13 @@ ghost use Rattle.encode_film.specs.Runs.{NoFault};
 
 use crate::closing::close_outputs;
 use crate::pictures::encode_pictures;
-use crate::{EncodeEnd, SettingFault, UnitCoder};
+use crate::unit_coder::UnitCoder;
+use crate::{EncodeEnd, SettingFault};
 use bit_strings::BitBuf;
 use enc_edge::{Gate, Out, Place, Studio};
 use picture_planes::Picture;
 use spec_film::{FilmHead, InputFault};
 use spec_words::Settings;
-use std::alloc::Global;
 use y4m_film::{HeadFault, read_head};
 
 // The room of an access unit: 100,000,000 bits.
@@ -31,8 +31,8 @@ fn has_too_many_slices(head: &FilmHead, settings: &Settings) -> bool
     settings.slices > MOST_SLICES || settings.slices > head.height / 16
 }
 
-fn encode_film<S: Studio, G: Gate + Sync, C: UnitCoder>(
-    alloc: Global,
+fn encode_film<R: AllocGlobal, S: Studio, G: Gate + Sync>(
+    rt: &R,
     input: &str,
     stream: &str,
     recon: &str,
@@ -44,6 +44,7 @@ fn encode_film<S: Studio, G: Gate + Sync, C: UnitCoder>(
     requires slices { 1 ≤ settings.now.slices }
     ensures { Leaves (named input.now stream.now recon.now) settings.now (S.seen studio.old) (S.seen studio.new) result }
 {
+    let alloc = rt.alloc();
     match studio.open_in(input) {
         Ok(()) => {}
         Err(_) => return Err(EncodeEnd::Open(Place::Input)),
@@ -62,7 +63,7 @@ fn encode_film<S: Studio, G: Gate + Sync, C: UnitCoder>(
     let Ok(mut unit) = BitBuf::with_room(alloc, UNIT_BYTES) else {
         return Err(EncodeEnd::OutOfMemory);
     };
-    let Ok(mut coder) = C::new(alloc, &head, settings) else {
+    let Ok(mut coder) = UnitCoder::new(alloc, &head, settings) else {
         return Err(EncodeEnd::OutOfMemory);
     };
     match studio.open_out(Out::Stream, stream) {
@@ -74,6 +75,7 @@ fn encode_film<S: Studio, G: Gate + Sync, C: UnitCoder>(
         Err(_) => return Err(EncodeEnd::Open(Place::Output(Out::Recon))),
     }
     encode_pictures(
+        rt,
         studio,
         gate,
         &head,
@@ -89,7 +91,7 @@ fn encode_film<S: Studio, G: Gate + Sync, C: UnitCoder>(
 /// it under the third.
 ///
 /// All memory is taken behind the film's head, before an output is opened.
-pub fn encode<R: AllocGlobal, S: Studio, G: Gate + Sync, C: UnitCoder>(
+pub fn encode<R: AllocGlobal, S: Studio, G: Gate + Sync>(
     rt: &R,
     input: &str,
     stream: &str,
@@ -107,5 +109,5 @@ pub fn encode<R: AllocGlobal, S: Studio, G: Gate + Sync, C: UnitCoder>(
     // Where nothing outside failed, the film and the settings alone decide the end, or memory was wanting.
     ensures answers { (left : List ℕ) → (S.seen studio.old).input.bytes ≡ Some left → NoFault (S.seen studio.old) (S.seen studio.new) → Answers (film_of left) settings.now result }
 {
-    encode_film::<S, G, C>(rt.alloc(), input, stream, recon, settings, studio, gate)
+    encode_film(rt, input, stream, recon, settings, studio, gate)
 }

@@ -9,7 +9,7 @@ use Rattle.spec_stream.specs.Samples.{cropped}
 use Rattle.spec_slice_layer.specs.Layer.{Format, Slice, read_layer}
 use Rattle.spec_built.specs.Records.{slice_built}
 use Rattle.spec_filter.specs.Pictures.{picture_filtered}
-use Rattle.spec_pictures.specs.Decode.{Reading, decode_by}
+use Rattle.spec_pictures.specs.Decode.{Reading}
 
 -- what the parameter sets tell a slice
 abbrev pub format_of : SeqHead → Bool → Format
@@ -47,7 +47,3 @@ frames = record {
   count = λ s. length s.records;
   picture = λ s slices. cropped (across_of s) s.width s.height (picture_of (across_of s) (down_of s) slices);
 }
-
--- the pictures that a decoder shows, in output order
-unfoldable pub decode : List ℕ → Option (List Planes)
-decode bytes = decode_by frames bytes

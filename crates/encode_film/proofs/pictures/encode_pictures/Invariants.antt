@@ -1,12 +1,13 @@
 use Rattle.std.proofs.Common.{◌≡◌}
 use Rattle.y4m_film.specs.Sizes.{FitsHead}
+use Rattle.encode_film.specs.Coders.{IsMadeFor}
 use Rattle.encode_film.proofs.Going.{Going}
 use Rattle.encode_film.proofs.pictures.encode_pictures.Given as goal
 
 abbrev pub invariant-loop-number : goal.invariant-loop-number
 invariant-loop-number g l = record {
   going : Going l.head l.settings l.number (g.S.Studio.seen l.fn.studio) (g.S.Studio.seen l.studio);
-  coder : g.C.UnitCoder.made_for l.coder l.head l.settings;
+  coder : IsMadeFor l.coder l.head l.settings;
   sizes : FitsHead l.head l.picture;
   room : l.unit.room ≡ 100000000;
 }
