@@ -16,13 +16,15 @@ use Rattle.spec_encoding.specs.Encoding.{sequence_of, settled, encoded_picture}
 use Rattle.spec_slice_layer.specs.Layer.{Slice}
 use Rattle.bit_strings.specs.BitText.{BitText, Appends}
 use Rattle.picture_planes.specs.declared.picture.Picture.{Picture}
-use Rattle.picture_planes.specs.Pictures.{planes_of}
+use Rattle.picture_planes.specs.Pictures.{planes_of, SameShapes}
 use Rattle.picture_coder.specs.declared.coder.PictureCoder.{PictureCoder}
-use Rattle.picture_coder.specs.Coders.{IsMadeFor, HasPlans, slices_for, bits_for}
+use Rattle.picture_coder.specs.Coders.{IsMadeFor, HasPlans, OnlyPictureDiffers, slices_for, bits_for}
 use Rattle.picture_coder.specs.Slices.{units_of}
+use Rattle.picture_coder.specs.Sizes.{HasSizes}
+use Rattle.picture_coder.proofs.Sizes.{sizes_agree}
 use Rattle.picture_coder.proofs.Streams.{by_parity, picture_is}
 use Rattle.stored_picture.proofs.BlockText.{with_more}
-use Rattle.access_unit.proofs.Making.{first_full, second_full, both_written}
+use Rattle.access_unit.proofs.Making.{first_full, second_full, both_written, whole_behind}
 
 abbrev pub sets_of : FilmHead → Bool → List ℕ
 sets_of h t8x8 = unit_bytes true 3 7 (sequence_payload (sequence_of h)) ++ unit_bytes true 3 8 (picture_payload true t8x8)
@@ -94,6 +96,10 @@ told_of (Err e) good x = absurd (good refl)
 pub plans_at : (c : PictureCoder) (t8x8 u : Bool) (source p : Picture) → u ≡ t8x8 → p ≡ source → HasPlans c t8x8 (planes_of source) → HasPlans c u (planes_of p)
 plans_at c t8x8 u source p e k h = subst (λ (b : Bool). HasPlans c b (planes_of p)) (sym e) (subst (λ (x : Picture). HasPlans c t8x8 (planes_of x)) (sym k) h)
 
+-- a source of the coder's sizes
+pub alike : (c : PictureCoder) (width height slices : ℕ) (source p : Picture) → IsMadeFor c width height slices → HasSizes width height source → p ≡ source → SameShapes c.picture p
+alike c width height slices source p made sizes e = subst (λ (x : Picture). SameShapes c.picture x) (sym e) (sizes_agree width height c.picture source made.sizes sizes)
+
 -- ---- the access unit
 
 pub sets_fail : {E : Type 0} (h : FilmHead) (s : Settings) (number : ℕ) (source : Planes) (r : Result (Unit {0}) E) (old new : BitText) → IsErr r → Appends old new (bits_of_bytes (sets_of h s.t8x8)) r
@@ -114,3 +120,7 @@ pub unit_written : {E : Type 0} (h : FilmHead) (s : Settings) (number : ℕ) (so
 unit_written h s number source r old mid new bits first good is wrote =
     subst (λ (u : List ℕ). (length old.text + length (bits_of_bytes u) ≤ old.room) × (new ≡ with_more old (bits_of_bytes u))) (whole_is h s number source)
     (both_written r old mid new (sets_of h s.t8x8) (units_in h s number source) first good (subst (λ (xs : List Bool). Appends mid new xs r) is wrote))
+
+-- the plans stay
+pub plans_kept : (old new : PictureCoder) (t8x8 : Bool) (source : Planes) → OnlyPictureDiffers old new → HasPlans old t8x8 source → HasPlans new t8x8 source
+plans_kept old new t8x8 source o h = rw (o.across, o.down, o.slices, o.plans) h

@@ -2,7 +2,9 @@
 #![tactic(auto)]
 
 mod sets;
+#[cfg(test)]
+mod tests;
 mod unit;
 
 pub use sets::write_parameter_sets;
-pub use unit::{code_access_unit, job_of};
+pub use unit::{code_access_unit, plan_access_unit};

@@ -13,7 +13,7 @@ use Rattle.spec_slice_layer.specs.Layer.{Format, Slice}
 use Rattle.spec_pictures.specs.Decode.{decode_by}
 use Rattle.spec_pictures.specs.Coded.{CodedSlice, Covers, AllCover, slices_in, stream_of, picture_units, shown_of}
 use Rattle.spec_pictures.proofs.Streams.{streams_decode}
-use Rattle.spec_encoding.specs.Frames.{format_of, frames, picture_of, decode}
+use Rattle.spec_encoding.specs.Frames.{frames}
 use Rattle.spec_encoding.specs.Coding.{coded_picture}
 use Rattle.spec_encoding.specs.Encoding.{sequence_of, settled, with_payload, coded_with_payloads, encoded_picture, encoded_pictures, reconstructed, reconstruction}
 use Rattle.spec_encoding.proofs.Coded.{picture_fits}
