@@ -1,21 +1,13 @@
 -- The slices of a coded picture cover it.
-use Rattle.std.proofs.Common.{◌≡◌, ◌≤◌, ◌+◌, ◌/◌, ◌++◌, ℕ, true, List, [], ◌∷◌, map, Some, refl, ap, ap₂, ◌∙◌, arith, lit<, lit≤}
-use Rattle.std.specs.List.{All}
-use Rattle.std.proofs.lemmas.List.Elements.{All-head, All-tail}
+use Rattle.std.proofs.Common.{◌≤◌, ◌+◌, ◌/◌, ℕ, true, refl, arith, lit≤}
 use Rattle.spec_film.specs.declared.FilmHead.{FilmHead}
 use Rattle.spec_film.specs.Films.{Planes, AllowedHead}
 use Rattle.spec_bits.specs.Allowed.{IsSeqHead}
 use Rattle.spec_words.specs.declared.Settings.{Settings}
-use Rattle.spec_stream.specs.Decode.{across_of, down_of}
 use Rattle.spec_stream.specs.Pictures.{IsPicture}
-use Rattle.spec_stream.specs.Samples.{cropped}
-use Rattle.spec_slice_layer.specs.Layer.{Format, Slice}
-use Rattle.spec_pictures.specs.Decode.{decode_by}
-use Rattle.spec_pictures.specs.Coded.{CodedSlice, Covers, AllCover, slices_in, stream_of, picture_units, shown_of}
-use Rattle.spec_pictures.proofs.Streams.{streams_decode}
+use Rattle.spec_pictures.specs.Coded.{Covers}
 use Rattle.spec_encoding.specs.Frames.{frames}
-use Rattle.spec_encoding.specs.Coding.{coded_picture}
-use Rattle.spec_encoding.specs.Encoding.{sequence_of, settled, with_payload, coded_with_payloads, encoded_picture, encoded_pictures, reconstructed, reconstruction}
+use Rattle.spec_encoding.specs.Encoding.{sequence_of, settled, coded_with_payloads}
 use Rattle.spec_encoding.proofs.Coded.{picture_fits}
 use Rattle.spec_encoding.proofs.Covering.{IsSettled, picture_covers}
 
