@@ -6,3 +6,4 @@ pub mod Growing
 pub mod Remaining
 pub mod Running
 pub mod Showing
+pub mod Sizing

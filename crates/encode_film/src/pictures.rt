@@ -8,6 +8,7 @@ ghost use Rattle.spec_stream.specs.Pictures.{IsPicture};
 ghost use Rattle.picture_planes.specs.Samples.{samples_of};
 ghost use Rattle.picture_planes.specs.Pictures.{planes_of};
 ghost use Rattle.y4m_film.specs.Sizes.{FitsHead};
+ghost use Rattle.picture_coder.specs.Sizes.{HasSizes};
 ghost use Rattle.encode_film.specs.Coders.{IsMadeFor};
 ghost use Rattle.encode_film.specs.Pictures.{EndLeft, PictureLeft, PicturesLeft};
 
@@ -38,7 +39,7 @@ fn encode_picture<R, S: Studio, G: Gate + Sync>(
     requires head { AllowedHead head.now }
     requires qp { settings.now.qp ≤ 51 }
     requires coder { IsMadeFor coder.old head.now settings.now }
-    requires sizes { FitsHead head.now source.now }
+    requires sizes { HasSizes head.now.width head.now.height source.now }
     requires room { unit.old.room ≡ 100000000 }
     ensures coder { IsMadeFor coder.new head.now settings.now }
     ensures room { unit.new.room ≡ 100000000 }
@@ -73,7 +74,7 @@ pub(crate) fn encode_pictures<R, S: Studio, G: Gate + Sync>(
     requires head { AllowedHead head.now }
     requires qp { settings.now.qp ≤ 51 }
     requires coder { IsMadeFor coder.old head.now settings.now }
-    requires sizes { FitsHead head.now picture.old }
+    requires sizes { HasSizes head.now.width head.now.height picture.old }
     requires room { unit.old.room ≡ 100000000 }
     ensures { PicturesLeft head.now settings.now (S.seen studio.old) (S.seen studio.new) result }
 {

@@ -1,5 +1,5 @@
 // What codes a picture as one access unit.
-use access_unit::{code_access_unit, job_of};
+use access_unit::{code_access_unit, plan_access_unit};
 use bit_strings::{BitBuf, Full};
 use enc_edge::Gate;
 use picture_coder::PictureCoder;
@@ -33,6 +33,7 @@ impl UnitCoder {
     ghost use Rattle.spec_encoding.specs.Frames.{picture_of};
     ghost use Rattle.spec_encoding.specs.Coding.{coded_picture};
     ghost use Rattle.spec_encoding.specs.Encoding.{sequence_of, settled, encoded_picture};
+    ghost use Rattle.picture_coder.specs.Sizes.{HasSizes};
     ghost use Rattle.encode_film.specs.Coders.{IsMadeFor};
 
     /// A coder for pictures of a film with this head. `OutOfMemory`: its memory couldn't be had; `code` takes none.
@@ -67,7 +68,7 @@ impl UnitCoder {
         requires head { AllowedHead head.now }
         requires qp { settings.now.qp ≤ 51 }
         requires made { IsMadeFor self.old head.now settings.now }
-        requires sizes { FitsHead head.now source.now }
+        requires sizes { HasSizes head.now.width head.now.height source.now }
         requires empty { out.old.text ≡ [] }
         requires room { out.old.room ≡ 100000000 }
         ensures made { IsMadeFor self.new head.now settings.now }
@@ -75,8 +76,7 @@ impl UnitCoder {
         ensures unit { Appends out.old out.new (bits_of_bytes (encoded_picture head.now settings.now number (planes_of source.now))) result }
         ensures picture { IfOk result (λ _. planes_of self.new.coder.picture ≡ picture_of (across_of (sequence_of head.now)) (down_of (sequence_of head.now)) (coded_picture (settled head.now settings.now) number (planes_of source.now))) }
     {
-        let job = job_of(settings, number, source);
-        self.coder.plan(rt, &job, gate);
+        plan_access_unit(rt, &mut self.coder, head, settings, source, gate);
         code_access_unit(
             rt,
             &mut self.coder,

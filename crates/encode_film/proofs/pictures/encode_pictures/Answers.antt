@@ -3,7 +3,8 @@ use Rattle.spec_film.specs.Films.{Next, most_pictures, frame_step}
 use Rattle.picture_planes.specs.Pictures.{planes_of}
 use Rattle.encode_film.specs.Pictures.{cut_head, PicturesLeft}
 use Rattle.encode_film.proofs.Remaining.{of_both}
-use Rattle.encode_film.proofs.Going.{going_none, going_more, going_end, going_broken, going_unread, going_stopped, going_last, handed_on, fits_still}
+use Rattle.encode_film.proofs.Going.{going_none, going_more, going_end, going_broken, going_unread, going_stopped, going_last, handed_on}
+use Rattle.encode_film.proofs.Sizing.{fits, sizes_still}
 use Rattle.encode_film.proofs.pictures.encode_pictures.Goals as goal
 
 pub returns-in-Err : goal.returns-in-Err
@@ -30,7 +31,7 @@ loop-number-preserved g c =
       going = going_more c.args.head.now c.args.settings.now number t.0 planes (seen c.args.studio.now) (seen c.loop-number.studio) (seen c.next_picture.new.studio) (seen c.encode_picture.new.studio)
           c.loop-number-test.true c.loop-number.invariant.going t.1.change next c.in_ok-encode_picture.ensures.left c.is_picture.ensures;
       coder = c.encode_picture.ensures.coder;
-      sizes = fits_still c.args.head.now c.loop-number.picture c.next_picture.new.picture c.next_picture.ensures.shapes c.loop-number.invariant.sizes;
+      sizes = sizes_still c.args.head.now.width c.args.head.now.height c.loop-number.picture c.next_picture.new.picture c.next_picture.ensures.shapes c.loop-number.invariant.sizes;
       room = c.encode_picture.ensures.room;
     }
 
