@@ -80,6 +80,14 @@ pub encode_decided : (settings : Settings) (left : List ℕ) (r : Result (Unit {
 encode_decided settings left r (inl is) = inl (ap outcome_of is)
 encode_decided settings left r (inr is) = inr (ap outcome_of is)
 
+pub encoded_ran : (words : List Word) (input stream recon : Word) (settings : Settings) (old new : Seen) (r : Result (Unit {0}) EncodeEnd) (o : Outcome) → meaning_of words ≡ Encode input stream recon settings → o ≡ outcome_of r
+    → EndLeaves (named input stream recon) settings old new r
+    → ((left : List ℕ) → old.input.bytes ≡ Some left → NoFault old new → EndAnswers (film_of left) settings r) → Ran words old new o
+encoded_ran words input stream recon settings old new r o means is left answers =
+    encoded input stream recon settings means
+    (subst (λ (x : Outcome). EncodeLeaves (named input stream recon) settings old new x) (sym is) (encode_left (named input stream recon) settings old new r left))
+    (λ bytes told none. subst (λ (x : Outcome). EncodeAnswers (film_of bytes) settings x) (sym is) (encode_decided settings bytes r (answers bytes told none)))
+
 -- ---- the clauses of a run
 
 same_fault : (f h : WordFault) → Words f ≡ Words h → f ≡ h
