@@ -1,9 +1,10 @@
 -- Rows that are planned one after another, and slices.
 use Rattle.std.proofs.Common.{◌≡◌, ◌≤◌, ◌<◌, ◌+◌, ◌⊎◌, inl, inr, ℕ, Bool, List, length, get_or, vec_len, set, sym, ap, subst, ◌∙◌, arith}
 use Rattle.std.proofs.lemmas.Bool.{cases_lt}
-use Rattle.std.specs.List.{range_with_len}
+use Rattle.std.specs.List.{All, range_with_len}
 use Rattle.std.proofs.lemmas.List.{get_or-set_same, get_or-set_other, length-map}
 use Rattle.enc_tables.specs.declared.records.MbPlan.{MbPlan}
+use Rattle.enc_tables.specs.Choice.{SmallCosts}
 use Rattle.spec_choice.specs.IntraPlans.{intra_plan, intra_plans}
 use Rattle.std.proofs.lemmas.List.FromFn.{length-range_with_len}
 use Rattle.enc_tables.specs.declared.plans.RowPlan.{RowPlan}
@@ -46,5 +47,10 @@ unfolding intra_plans
 length-planned across first t8x8 source row = length-map (range_with_len 0 across) (intra_plan across first t8x8 source row) ∙ length-range_with_len 0 across
 
 -- a row that was planned has as many plans as before
-pub same_width : (across first : ℕ) (t8x8 : Bool) (source : Planes) (row : ℕ) (p : RowPlan) → p.mbs.items ≡ intra_plans across first t8x8 source row → vec_len p.mbs ≡ across
+same_width : (across first : ℕ) (t8x8 : Bool) (source : Planes) (row : ℕ) (p : RowPlan) → p.mbs.items ≡ intra_plans across first t8x8 source row → vec_len p.mbs ≡ across
 same_width across first t8x8 source row p e = p.mbs.ok.0 ∙ ap (λ (xs : List MbPlan). length xs) e ∙ length-planned across first t8x8 source row
+
+pub planned_row : (n across first : ℕ) (t8x8 : Bool) (source : Planes) (row : ℕ) (p : RowPlan) → n ≡ across → p.mbs.items ≡ intra_plans n first t8x8 source row → All SmallCosts p.mbs.items → IsPlanned (place_at across first t8x8) source row p
+planned_row n across first t8x8 source row p wide e small =
+    let plans : p.mbs.items ≡ intra_plans across first t8x8 source row = e ∙ ap (λ (m : ℕ). intra_plans m first t8x8 source row) wide in
+    record { long = same_width across first t8x8 source row p plans; plans = plans; small = small }

@@ -1,5 +1,5 @@
 -- A slice of rows is a slice of the picture.
-use Rattle.std.proofs.Common.{◌≡◌, ◌≤◌, ◌<◌, ◌+◌, ◌-◌, ◌*◌, ◌/◌, ◌%◌, ◌^◌, ◌++◌, ℕ, Bool, true, List, length, take, drop, get_or, min, refl, sym, ap, ap₂, subst, ◌∙◌, arith, length-append, append_assoc, lit<}
+use Rattle.std.proofs.Common.{◌≡◌, ◌≤◌, ◌<◌, ◌+◌, ◌-◌, ◌*◌, ◌/◌, ◌%◌, ◌^◌, ◌++◌, ℕ, true, List, length, take, drop, get_or, refl, sym, ap, ap₂, subst, ◌∙◌, arith, length-append, append_assoc, lit<}
 use Rattle.std.proofs.lemmas.List.{get_or-take, get_or-drop, length-take, length-take-le, length-drop, take_at}
 use Rattle.enc_tables.specs.declared.records.MbRecord.{MbRecord}
 use Rattle.enc_tables.specs.declared.plans.RowPlan.{RowPlan}
@@ -9,7 +9,7 @@ use Rattle.spec_film.specs.Films.{Planes}
 use Rattle.spec_reading.specs.HeadReaders.{idr_head}
 use Rattle.spec_slice_layer.specs.Layer.{Format, Slice, IsIdrHead, layer_bits}
 use Rattle.spec_built.specs.Records.{slice_built}
-use Rattle.spec_encoding.specs.Coding.{Settled, first_row, first_of, count_of, head_of, records_of}
+use Rattle.spec_encoding.specs.Coding.{first_row, first_of, count_of, records_of}
 use Rattle.spec_encoding.proofs.Coded.{length-coded}
 use Rattle.spec_encoding.proofs.Numbers.{behind}
 use Rattle.picture_coder.specs.declared.coding.Coding.{Coding}

@@ -1,6 +1,5 @@
 -- Slices written one behind another.
-use Rattle.std.proofs.Common.{◌≡◌, ◌≤◌, ◌<◌, ◌+◌, ◌-◌, ◌*◌, ◌/◌, ◌%◌, ◌++◌, ◌==◌, ℕ, zero, suc, Bool, true, false, List, [], ◌∷◌, length, take, drop, refl, sym, ap, ap₂, subst, ◌∙◌, arith, append_assoc, append-nil, length-append}
-use Rattle.std.proofs.lemmas.List.{length-take, length-drop}
+use Rattle.std.proofs.Common.{◌≡◌, ◌≤◌, ◌<◌, ◌+◌, ◌-◌, ◌*◌, ◌%◌, ◌++◌, ℕ, zero, suc, Bool, false, List, [], ◌∷◌, length, take, refl, sym, ap, ap₂, subst, ◌∙◌, arith, append_assoc, append-nil, length-append}
 use Rattle.std.proofs.lemmas.List.Concat.{flat_map-append}
 use Rattle.enc_tables.specs.declared.records.MbRecord.{MbRecord}
 use Rattle.bit_strings.specs.BitText.{BitText}
@@ -8,22 +7,20 @@ use Rattle.nal_writer.specs.Runs.{IsLonger}
 use Rattle.spec_bits.specs.Bits.{bits_of_bytes, bytes_of_bits}
 use Rattle.spec_bits.specs.Golomb.{align_bits}
 use Rattle.spec_bits.specs.Units.{unit_bytes, escape, start_code, EndsWell}
-use Rattle.spec_bits.specs.declared.heads.SliceHead.{SliceHead}
-use Rattle.spec_bits.proofs.Digits.{bits_of_bytes-append, length-bits_of_bytes, length-bytes_of_bits, bits_of_bytes-bytes_of_bits}
+use Rattle.spec_bits.proofs.Digits.{bits_of_bytes-append, length-bits_of_bytes, length-bytes_of_bits}
 use Rattle.spec_bits.proofs.Codes.{align_whole}
 use Rattle.spec_bits.proofs.Payloads.{length-escape_least}
 use Rattle.spec_film.specs.Films.{Planes}
-use Rattle.spec_reading.specs.HeadReaders.{idr_head}
 use Rattle.spec_slice_layer.specs.Layer.{Format, Slice, layer_bits, layer_payload}
 use Rattle.spec_built.specs.Records.{slice_built}
 use Rattle.spec_encoding.specs.Frames.{blank_planes, slices_built, all_records}
-use Rattle.spec_encoding.specs.Coding.{Settled, first_row, first_of, count_of, head_of, records_of, slices_of}
+use Rattle.spec_encoding.specs.Coding.{slices_of}
 use Rattle.spec_encoding.proofs.Ends.{payload_ends}
 use Rattle.spec_encoding.proofs.Numbers.{row_none}
 use Rattle.picture_coder.specs.declared.coding.Coding.{Coding}
 use Rattle.slice_coder.specs.Left.{padded}
 use Rattle.picture_coder.specs.Slices.{units_of}
-use Rattle.picture_coder.specs.Pictures.{settled_of, format_for, slice_at, unit_of, SliceCoded, SlicesCoded, still_long, slices_to, units_to}
+use Rattle.picture_coder.specs.Pictures.{format_for, slice_at, unit_of, SliceCoded, SlicesCoded, still_long, slices_to, units_to}
 
 -- ---- the text of a payload
 

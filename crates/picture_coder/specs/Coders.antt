@@ -1,9 +1,9 @@
 -- What a coder of pictures holds, and what it makes of a job.
-use Rattle.std.specs.Prelude.{ℕ, Bool, List, length, vec_len, ◌≡◌, ◌+◌, ◌*◌, ◌/◌}
+use Rattle.std.specs.Prelude.{ℕ, Bool, List, ◌≡◌, ◌+◌, ◌*◌, ◌/◌}
 use Rattle.picture_planes.specs.Pictures.{SameShapes}
 use Rattle.spec_bits.specs.Bits.{bits_of_bytes}
 use Rattle.spec_film.specs.Films.{Planes}
-use Rattle.spec_slice_layer.specs.Layer.{Format, Slice}
+use Rattle.spec_slice_layer.specs.Layer.{Slice}
 use Rattle.spec_encoding.specs.Coding.{Settled, coded_picture}
 use Rattle.picture_coder.specs.declared.coder.PictureCoder.{PictureCoder}
 use Rattle.picture_coder.specs.Planned.{SlicesPlanned}

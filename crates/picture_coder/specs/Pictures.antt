@@ -1,5 +1,5 @@
 -- Pictures that are written slice by slice.
-use Rattle.std.specs.Prelude.{ℕ, Bool, true, false, List, [], ◌∷◌, ◌++◌, length, take, ◌≡◌, ◌≤◌, ◌<◌, ◌+◌, ◌*◌}
+use Rattle.std.specs.Prelude.{ℕ, Bool, false, List, [], ◌∷◌, ◌++◌, take, ◌≡◌, ◌≤◌, ◌<◌, ◌+◌, ◌*◌}
 use Rattle.enc_tables.specs.declared.records.MbRecord.{MbRecord}
 use Rattle.picture_planes.specs.declared.picture.Picture.{Picture}
 use Rattle.spec_bits.specs.Bits.{bits_of_bytes}

@@ -133,6 +133,7 @@ impl PictureCoder {
         requires whole { length out.old.text % 8 ≡ 0 }
         ensures units { Appends out.old out.new (bits_for self.old job.now.t8x8 (length out.old.text == 0) (slices_for self.old job.now.t8x8 qp job.now.idr_id (planes_of job.now.source.now))) result }
         ensures decoded { OnOk result (planes_of self.new.picture ≡ picture_of self.old.across self.old.down (slices_for self.old job.now.t8x8 qp job.now.idr_id (planes_of job.now.source.now))) }
+        ensures planned { HasPlans self.new job.now.t8x8 (planes_of job.now.source.now) }
         ensures others { OnlyPictureDiffers self.old self.new }
     {
         let coding = Coding {

@@ -15,7 +15,6 @@ ghost use Rattle.picture_coder.specs.Pictures.{format_for, IsCoding, slice_at, u
 
 use crate::coding::Coding;
 use crate::rows::{macroblocks_of, rows_of};
-
 use bit_strings::{BitBuf, Full};
 use enc_tables::{MbRecord, RowPlan, SliceKind};
 use nal_writer::unit;

@@ -1,4 +1,4 @@
-use Rattle.std.proofs.Common.{◌≡◌, ◌*◌, sym, ◌∙◌}
+use Rattle.std.proofs.Common.{sym, ◌∙◌}
 use Rattle.picture_planes.specs.Pictures.{planes_of}
 use Rattle.picture_coder.proofs.Sizes.{on_ok, width_kept}
 use Rattle.picture_coder.proofs.Filtered.{all_quantised, filtered}

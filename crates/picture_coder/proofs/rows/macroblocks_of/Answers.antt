@@ -1,4 +1,3 @@
-use Rattle.std.proofs.Common.{◌≤◌, ◌*◌, ℕ, arith}
 use Rattle.std.proofs.Math.Nat.{mul-le-mul_right}
 use Rattle.picture_coder.proofs.rows.macroblocks_of.Goals as goal
 

@@ -1,4 +1,4 @@
-use Rattle.std.proofs.Common.{◌≡◌, ◌≤◌, ◌<◌, ◌+◌, ◌*◌, ◌/◌, arith}
+use Rattle.std.proofs.Common.{arith}
 use Rattle.spec_encoding.proofs.Numbers.{row_next}
 use Rattle.picture_coder.proofs.rows.rows_of.Goals as goal
 

@@ -1,8 +1,7 @@
-use Rattle.std.proofs.Common.{◌≡◌, ◌≤◌, ◌<◌, ◌+◌, ◌-◌, ◌*◌, ◌/◌, ℕ, List, Bool, length, take, drop, sym, ap, ap₂, subst, ◌∙◌, arith}
+use Rattle.std.proofs.Common.{◌-◌, ◌*◌, ◌/◌, ℕ, List, Bool, length, take, drop, sym, ap, subst, ◌∙◌, arith}
 use Rattle.picture_planes.specs.Pictures.{planes_of}
 use Rattle.slice_coder.specs.Left.{Leaves}
 use Rattle.bit_strings.specs.declared.bit_buf.Full.{Full}
-use Rattle.enc_tables.specs.declared.records.MbRecord.{MbRecord}
 use Rattle.picture_coder.proofs.Sizes.{both_ok, sixteenth}
 use Rattle.picture_coder.proofs.SliceRows.{slice_planned, lent, IsGiven, bits_are, slice_coded}
 use Rattle.picture_coder.proofs.slices.code_rows.Goals as goal

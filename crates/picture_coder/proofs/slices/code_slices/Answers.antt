@@ -1,4 +1,4 @@
-use Rattle.std.proofs.Common.{◌≡◌, ◌≤◌, ◌<◌, ◌+◌, ◌%◌, ◌==◌, ◌++◌, ℕ, Bool, List, length, refl, sym, ap, ◌∙◌, arith}
+use Rattle.std.proofs.Common.{◌==◌, ℕ, Bool, List, length, refl, sym, ap, ◌∙◌, arith}
 use Rattle.picture_planes.specs.Pictures.{planes_of}
 use Rattle.picture_coder.specs.Pictures.{slice_at, unit_of}
 use Rattle.picture_coder.proofs.Sizes.{on_ok, if_done, if_full, shapes_then}

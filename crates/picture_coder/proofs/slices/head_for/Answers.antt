@@ -1,4 +1,4 @@
-use Rattle.std.proofs.Common.{◌≤◌, ◌*◌, true, refl, arith}
+use Rattle.std.proofs.Common.{◌*◌, true, refl}
 use Rattle.std.proofs.lemmas.Nat.{mul-le}
 use Rattle.spec_reading.specs.HeadReaders.{idr_head}
 use Rattle.picture_coder.proofs.SliceRows.{head_fits}
