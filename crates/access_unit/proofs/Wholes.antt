@@ -24,7 +24,7 @@ use Rattle.picture_coder.specs.Sizes.{HasSizes}
 use Rattle.picture_coder.proofs.Sizes.{sizes_agree}
 use Rattle.picture_coder.proofs.Streams.{by_parity, picture_is}
 use Rattle.stored_picture.proofs.BlockText.{with_more}
-use Rattle.access_unit.proofs.Making.{first_full, second_full, both_written, whole_behind}
+use Rattle.access_unit.proofs.Making.{first_full, second_full, both_written}
 
 abbrev pub sets_of : FilmHead → Bool → List ℕ
 sets_of h t8x8 = unit_bytes true 3 7 (sequence_payload (sequence_of h)) ++ unit_bytes true 3 8 (picture_payload true t8x8)

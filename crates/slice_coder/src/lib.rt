@@ -8,6 +8,8 @@ mod near;
 mod place;
 mod samples;
 mod slice;
+#[cfg(test)]
+mod tests;
 mod write;
 
 pub use slice::code_slice;
