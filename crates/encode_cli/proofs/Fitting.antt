@@ -51,9 +51,10 @@ given None slices t s e = absurd (none_some s e)
 fit : (words : List Word) (s : Settings) → settings_of words ≡ Some s → (s.qp ≤ 51) × (1 ≤ s.slices)
 unfolding settings_of
 fit words s e =
-    let g = given (number_in 0 51 26 (value_of (codes "--qp") words)) (number_in 1 255 1 (value_of (codes "--slices") words)) (switch_in (value_of (codes "--t8x8") words)) s e in
-    ((number_fits 0 51 26 (value_of (codes "--qp") words) s.qp (omega arith) (omega arith) g.qp_is).1,
-    (number_fits 1 255 1 (value_of (codes "--slices") words) s.slices (omega arith) (omega arith) g.slices_are).0)
+    let g = given (number_in 0 51 26 (value_of (codes "--qp") words)) (number_in 1 255 1 (value_of (codes "--slices") words)) (switch_in (value_of (codes "--t8x8") words)) s e in (
+      (number_fits 0 51 26 (value_of (codes "--qp") words) s.qp (omega arith) (omega arith) g.qp_is).1,
+      (number_fits 1 255 1 (value_of (codes "--slices") words) s.slices (omega arith) (omega arith) g.slices_are).0,
+    )
 
 -- ---- commands
 

@@ -88,7 +88,9 @@ fn places_in_order(rt: HostRuntime) -> Result<(), Fail> {
 
 #[test]
 fn the_line_of_a_long_picture(rt: HostRuntime) -> Result<(), Fail> {
-    let long = Outcome::Long { picture: 4_294_967_295 };
+    let long = Outcome::Long {
+        picture: 4_294_967_295,
+    };
     assert_eq!(rt; status(&long), 5);
     assert_eq!(rt; fault_line(&long).as_str(), "picture 4294967295 too long");
     Ok(())

@@ -31,12 +31,14 @@ fn answer<R: AllocGlobal, S: Studio, G: Gate + Sync>(
 {
     match settings(words) {
         Ok(Command::Store { input, output }) => store(rt.alloc(), input, output, studio),
-        Ok(Command::Encode {
-            input,
-            stream,
-            recon,
-            settings,
-        }) => outcome_of(encode(rt, input, stream, recon, &settings, studio, gate)),
+        Ok(
+            Command::Encode {
+                input,
+                stream,
+                recon,
+                settings,
+            },
+        ) => outcome_of(encode(rt, input, stream, recon, &settings, studio, gate)),
         Err(fault) => Outcome::Words(fault),
     }
 }

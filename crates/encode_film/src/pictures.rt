@@ -90,7 +90,9 @@ pub(crate) fn encode_pictures<R, S: Studio, G: Gate + Sync>(
             Err(FrameFault::Form) => return Err(EncodeEnd::Input(InputFault::Form)),
         }
         is_picture(head, picture);
-        encode_picture(rt, studio, gate, head, settings, coder, number, picture, unit)?;
+        encode_picture(
+            rt, studio, gate, head, settings, coder, number, picture, unit,
+        )?;
     }
     end_pictures(studio, head, picture)
 }
