@@ -1,6 +1,7 @@
 #!/bin/bash
-# Times the arithmetic coder on 50 million bins of a real stream beside two plain coders in C, all in this run, and prints bins per
-# second and the ratios. A reference encoder says which bins a film that is made here has.
+# Times the arithmetic coder on 50 million bins of a real stream beside two plain coders in C and beside the coder of a reference encoder,
+# all in this run, and prints bins per second and the ratios. The reference says which bins a film that is made here has; its own coder
+# is timed inside its runs, by valgrind and perf, and left out where these aren't installed.
 #
 # usage: bench/cabac.sh REFERENCE
 set -eu
@@ -19,6 +20,9 @@ import os, random, re, resource, subprocess, sys
 
 folder, reference, top = sys.argv[1:]
 path = lambda name: os.path.join(folder, name)
+sys.path.insert(0, os.path.join(top, "bench"))
+sys.dont_write_bytecode = True
+import reference_coder
 
 # The tables of the plain coders: the ranges from the encoder's own source, the rest from the text of the standard's tables.
 source = open(os.path.join(top, "crates/enc_tables/src/arithmetic.rt")).read()
@@ -57,8 +61,8 @@ def film(width, height, pictures, noise):
     return out
 
 open(path("film"), "wb").write(film(352, 288, 8, 10))
-subprocess.run([reference, "--stage", "9", "--bins", path("told"), "encode", "--in", path("film"), "--out", path("stream"),
-                "--recon", path("recon"), "--qp", "26"], check=True)
+encode = ["encode", "--in", path("film"), "--out", path("stream"), "--recon", path("recon"), "--qp", "26"]
+subprocess.run([reference, "--stage", "9", "--bins", path("told"), *encode], check=True)
 count = 0
 with open(path("bins"), "w") as f:
     for line in open(path("told")):
@@ -97,8 +101,12 @@ for _ in range(3):
 print(told.pop().strip(), f"for {times + 1} codes")
 if told:
     sys.exit(f"the sums differ: {told}")
-for name in programs:
+if reference_coder.is_possible():
+    best["reference"] = reference_coder.seconds([reference, "--stage", "9", *encode], times, count, folder)
+else:
+    print("the reference's coder isn't timed: valgrind or perf isn't installed")
+for name in best:
     print(f"{name:10} {best[name]:6.3f} s  {times * count / best[name] / 1e6:6.1f} million bins a second")
-for name in ("C, bytes", "C, bits"):
+for name in list(best)[1:]:
     print(f"speed against {name}: {best[name] / best['rambovitu']:.2f}")
 PY

@@ -1,6 +1,7 @@
 #!/bin/bash
 # Times `encode` on a film beside a reference encoder and, where it is installed, beside x264 with intra pictures alone (one thread, the
-# same quantisation parameter), all in this run. Prints pictures per second, ratios and the sizes of the streams.
+# same quantisation parameter), all in this run; the reference and x264 also with the loop filter switched off, which `encode` can't do.
+# Prints pictures per second, ratios and the sizes of the streams.
 #
 # usage: bench/encode.sh REFERENCE [FILM]
 # REFERENCE is a program that takes the same words. Without FILM a film of 352x288 with 60 pictures is made: by ffmpeg where it is
@@ -44,12 +45,13 @@ with open(film, "rb") as f:
     pictures = f.read().count(b"FRAME\n")
 stream, recon = os.path.join(folder, "stream"), os.path.join(folder, "recon")
 words = ["encode", "--in", film, "--out", stream, "--recon", recon, "--qp", "28"]
-runs = {"rambovitu": [program, *words], "reference": [reference, "--stage", "6", *words]}
+runs = {"rambovitu": [program, *words], "reference": [reference, "--stage", "6", *words], "reference, no filter": [reference, "--stage", "5", *words]}
 if shutil.which("x264"):
     # --qp is that of P pictures; I pictures are to have 26, as `--qp 28` gives them here
     common = ["x264", "--quiet", "--no-progress", "--keyint", "1", "--qp", "26", "--ipratio", "1", "--threads", "1", "--profile", "high", "-o", stream, film]
-    runs["x264, medium"] = common
-    runs["x264, medium, no assembly"] = common[:1] + ["--no-asm"] + common[1:]
+    for name, more in (("", []), (", no filter", ["--no-deblock"])):
+        runs["x264, medium" + name] = common[:1] + more + common[1:]
+        runs["x264, medium, no assembly" + name] = common[:1] + ["--no-asm"] + more + common[1:]
 best, size = {}, {}
 for _ in range(3):
     for name, command in runs.items():
@@ -60,7 +62,7 @@ for _ in range(3):
         size[name] = os.path.getsize(stream)
         os.remove(stream)
 for name in runs:
-    print(f"{name:26} {pictures / best[name]:8.1f} pictures/s  {size[name]:10} bytes")
+    print(f"{name:37} {pictures / best[name]:8.1f} pictures/s  {size[name]:10} bytes")
 for name in list(runs)[1:]:
     print(f"speed against {name}: {best[name] / best['rambovitu']:.2f}")
 PY

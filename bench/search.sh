@@ -3,7 +3,9 @@
 # this run: microseconds for a window, once with no vector excluded (every block's sums are equal in the whole window), and once on two
 # pictures of a film with moving texture and noise. All sums have to agree.
 #
-# usage: bench/search.sh
+# usage: bench/search.sh [FILM]
+# With FILM, a YUV4MPEG2 film in 4:2:0 whose width and height are multiples of 16, also on eight pairs of its pictures, each picture
+# searched in the one before it.
 set -eu
 cd "$(dirname "$0")/.."
 folder=$(mktemp -d)
@@ -16,13 +18,12 @@ if [ ! -x crates/time_search/out/time_search ]; then
 fi
 cc -O3 -o "$folder/o3" bench/search.c
 cc -O3 -march=x86-64-v2 -o "$folder/o3v2" bench/search.c
-python3 - "$folder" "$PWD/crates/time_search/out/time_search" <<'PY'
+python3 - "$folder" "$PWD/crates/time_search/out/time_search" ${1:+"$1"} <<'PY'
 import os, random, resource, subprocess, sys
 
-folder, program = sys.argv[1:]
+folder, program = sys.argv[1:3]
 programs = {"rambovitu": program, "C, -O3": os.path.join(folder, "o3"), "C, -O3, SSE4": os.path.join(folder, "o3v2")}
 width, height, span, turns = 640, 352, 16, 4
-windows = width // 16 * (height // 16)
 vectors = (2 * span + 1) ** 2
 random.seed(1)
 
@@ -55,31 +56,59 @@ def picture(t):
 
 # Each 8x8 block of rows of 100 and 156 in turn has the sum of a grey one, and no vector costs nothing.
 stripes = b"".join(bytes([156 if y % 2 else 100]) * width for y in range(height))
-films = {"nothing excluded": stripes + bytes([128]) * (width * height), "moving film": picture(1) + picture(0)}
+films = {
+    "nothing excluded": (width, height, [stripes + bytes([128]) * (width * height)]),
+    "moving film": (width, height, [picture(1) + picture(0)]),
+}
 
 
-def run(program, samples, times):
+def pairs(name, count):
+    """Luma samples of pictures of a film, each behind those of the picture after it, from places all over the film."""
+    with open(name, "rb") as f:
+        head = f.readline().split()
+        across, down = (next(int(word[1:]) for word in head[1:] if word[:1] == letter) for letter in (b"W", b"H"))
+        lumas = []
+        while f.readline():
+            samples = f.read(across * down * 3 // 2)
+            lumas.append(samples[:across * down])
+    places = [(2 * k + 1) * (len(lumas) - 1) // (2 * count) for k in range(count)]
+    return across, down, [lumas[t + 1] + lumas[t] for t in places]
+
+
+if len(sys.argv) > 3:
+    films[os.path.basename(sys.argv[3])] = pairs(sys.argv[3], 8)
+
+
+def run(words, samples):
     before = resource.getrusage(resource.RUSAGE_CHILDREN)
-    words = [program, str(width), str(height), str(span), str(times)]
     done = subprocess.run(words, input=samples, capture_output=True, check=True)
     after = resource.getrusage(resource.RUSAGE_CHILDREN)
     return after.ru_utime - before.ru_utime, done.stdout.decode().split()
 
 
-for name, samples in films.items():
-    best, told, compared = {}, set(), 0
-    for _ in range(5):
-        for who, program in programs.items():
-            alone, line = run(program, samples, 1)
-            compared = int(line[3]) if len(line) > 3 else compared
-            taken, line = run(program, samples, turns + 1)
-            told.add(line[1])
-            best[who] = min(best.get(who, 1e9), taken - alone)
-    if len(told) > 1:
-        sys.exit(f"the sums differ: {told}")
-    print(f"{name}: {100 - 100 * compared / (windows * vectors):.1f} % of the vectors are excluded")
+for name, (width, height, all_samples) in films.items():
+    windows = width // 16 * (height // 16)
+    total, compared = dict.fromkeys(programs, 0), 0
+    for samples in all_samples:
+        best, told = {}, set()
+        for _ in range(5):
+            for who, program in programs.items():
+                words = [program, str(width), str(height), str(span)]
+                alone, line = run([*words, "1"], samples)
+                if len(line) > 3:
+                    compared_here = int(line[3])
+                taken, line = run([*words, str(turns + 1)], samples)
+                told.add(line[1])
+                best[who] = min(best.get(who, 1e9), taken - alone)
+        if len(told) > 1:
+            sys.exit(f"the sums differ: {told}")
+        compared += compared_here
+        for who in programs:
+            total[who] += best[who]
+    searched = windows * len(all_samples)
+    print(f"{name}: {100 - 100 * compared / (searched * vectors):.1f} % of the vectors are excluded")
     for who in programs:
-        print(f"{name}  {who:12} {best[who] / turns / windows * 1e6:7.2f} us a window")
+        print(f"{name}  {who:12} {total[who] / turns / searched * 1e6:7.2f} us a window")
     for who in list(programs)[1:]:
-        print(f"{name}  time against {who}: {best['rambovitu'] / best[who]:.2f}")
+        print(f"{name}  time against {who}: {total['rambovitu'] / total[who]:.2f}")
 PY

@@ -5,6 +5,9 @@ import shutil
 import subprocess
 import sys
 
+sys.dont_write_bytecode = True
+from unfiltered import unfiltered
+
 folder, reference, program = sys.argv[1:]
 random.seed(20)
 
@@ -56,7 +59,7 @@ def read(path):
 
 
 NAMES = ("stream", "recon")
-failed = decoded = compared = 0
+failed = decoded = compared = switched_off = 0
 ffmpeg = shutil.which("ffmpeg")
 
 
@@ -83,23 +86,48 @@ def compare(title, words):
     return ours
 
 
+def samples(film, head):
+    """The samples of a film's pictures, without its head and theirs."""
+    size = head[0] * head[1] * 3 // 2
+    start = film.index(b"\n") + 1
+    return b"".join(film[i + 6:i + 6 + size] for i in range(start, len(film), size + 6))
+
+
+def shown(stream):
+    """What ffmpeg decodes of a stream."""
+    inside, outside = os.path.join(folder, "decoded.264"), os.path.join(folder, "decoded")
+    with open(inside, "wb") as file:
+        file.write(stream)
+    words = [ffmpeg, "-v", "error", "-y", "-f", "h264", "-i", inside, "-fps_mode", "passthrough", "-f", "rawvideo", "-pix_fmt", "yuv420p", outside]
+    subprocess.run(words, check=True)
+    return read(outside)
+
+
 def decode(title, head, ours):
     """The stream, decoded by ffmpeg, is the reconstruction."""
     global failed, decoded
     if not ffmpeg or ours[0] != 0 or not ours[3]:
         return
-    stream, shown = os.path.join(folder, "ours.stream"), os.path.join(folder, "shown")
-    words = [ffmpeg, "-v", "error", "-y", "-f", "h264", "-i", stream, "-fps_mode", "passthrough", "-f", "rawvideo", "-pix_fmt", "yuv420p", shown]
-    subprocess.run(words, check=True)
-    width, height = head
-    size = width * height * 3 // 2
-    recon = ours[4]
-    start = recon.index(b"\n") + 1
-    pictures = b"".join(recon[i + 6:i + 6 + size] for i in range(start, len(recon), size + 6))
     decoded += 1
-    if read(shown) != pictures:
+    if shown(ours[3]) != samples(ours[4], head):
         failed += 1
         print(f"decoded otherwise: {title}")
+
+
+def compare_unfiltered(title, head, words, ours):
+    """The stream, its filter switched off, is the one that the reference writes without the filter, and shows its reconstruction."""
+    global failed, switched_off
+    if ours[0] != 0:
+        return
+    theirs = run([reference, "--stage", "5"], "theirs", words)
+    switched_off += 1
+    stream = unfiltered(ours[3])
+    if theirs[0] != 0 or stream != theirs[3]:
+        failed += 1
+        print(f"differs without the filter: {title}")
+    elif ffmpeg and shown(stream) != samples(theirs[4], head):
+        failed += 1
+        print(f"decoded otherwise without the filter: {title}")
 
 
 source = os.path.join(folder, "film.y4m")
@@ -122,8 +150,10 @@ for kind, picture in KINDS.items():
                 turn += 1
                 slices, t8x8 = 1 + turn % down, "on" if turn // 2 % 2 else "off"
                 title = f"{kind}, {across}x{down}, QP {qp}, {slices} slices, t8x8 {t8x8}"
-                ours = compare(title, ENCODE + ["--qp", str(qp), "--slices", str(slices), "--t8x8", t8x8])
+                words = ENCODE + ["--qp", str(qp), "--slices", str(slices), "--t8x8", t8x8]
+                ours = compare(title, words)
                 decode(title, (width, height), ours)
+                compare_unfiltered(title, (width, height), words, ours)
 
 # larger pictures of several slices, at defaults too
 for width, height, kind, words in [
@@ -137,7 +167,9 @@ for width, height, kind, words in [
 ]:
     write(film(width, height, [KINDS[kind](width, height, t) for t in range(2)]))
     title = f"{kind}, {width}x{height} {' '.join(words)}"
-    decode(title, (width, height), compare(title, ENCODE + words))
+    ours = compare(title, ENCODE + words)
+    decode(title, (width, height), ours)
+    compare_unfiltered(title, (width, height), ENCODE + words, ours)
 
 # words that are refused
 grey = film(16, 16, [KINDS["grey"](16, 16, 0)])
@@ -181,5 +213,5 @@ for words in [
 ]:
     compare(f"words {words}", words)
 
-print(f"compared {compared} runs with the reference, {decoded} streams decoded by ffmpeg, {failed} differ")
+print(f"compared {compared} runs with the reference, {switched_off} of them also without the filter, {decoded} streams decoded by ffmpeg, {failed} differ")
 sys.exit(1 if failed else 0)

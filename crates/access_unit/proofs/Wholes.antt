@@ -1,5 +1,5 @@
 -- A picture's units behind its parameter sets.
-use Rattle.std.proofs.Common.{◌≡◌, ℕ, ◌+◌, ◌-◌, ◌*◌, ◌%◌, ◌==◌, ◌<◌, ◌≤◌, ◌++◌, Bool, true, false, List, length, take, Result, Ok, Err, refl, sym, ap, subst, ◌∙◌, arith, append_assoc, length-append}
+use Rattle.std.proofs.Common.{◌≡◌, ℕ, ◌+◌, ◌-◌, ◌*◌, ◌/◌, ◌%◌, ◌==◌, ◌<◌, ◌≤◌, ◌++◌, Bool, true, false, List, length, take, Result, Ok, Err, refl, sym, ap, subst, ◌∙◌, arith, append_assoc, length-append}
 use Rattle.std.specs.Prelude.{IsErr, OnOk}
 use Rattle.std.proofs.lemmas.Bool.Decides.{nat_tests}
 use Rattle.spec_bits.specs.Bits.{bits_of_bytes}
@@ -16,12 +16,12 @@ use Rattle.spec_encoding.specs.Encoding.{sequence_of, settled, encoded_picture}
 use Rattle.spec_slice_layer.specs.Layer.{Slice}
 use Rattle.bit_strings.specs.BitText.{BitText, Appends}
 use Rattle.picture_planes.specs.declared.picture.Picture.{Picture}
-use Rattle.picture_planes.specs.Pictures.{planes_of, SameShapes}
+use Rattle.picture_planes.specs.Clamped.{rounded}
+use Rattle.picture_planes.specs.Pictures.{planes_of}
 use Rattle.picture_coder.specs.declared.coder.PictureCoder.{PictureCoder}
-use Rattle.picture_coder.specs.Coders.{IsMadeFor, HasPlans, OnlyPictureDiffers, slices_for, bits_for}
+use Rattle.picture_coder.specs.Coders.{IsMadeFor, HasPlans, HasSizesOf, OnlyPictureDiffers, slices_for, bits_for}
 use Rattle.picture_coder.specs.Slices.{units_of}
 use Rattle.picture_coder.specs.Sizes.{HasSizes}
-use Rattle.picture_coder.proofs.Sizes.{sizes_agree}
 use Rattle.picture_coder.proofs.Streams.{by_parity, picture_is}
 use Rattle.stored_picture.proofs.BlockText.{with_more}
 use Rattle.access_unit.proofs.Making.{first_full, second_full, both_written}
@@ -96,9 +96,20 @@ told_of (Err e) good x = absurd (good refl)
 pub plans_at : (c : PictureCoder) (t8x8 u : Bool) (source p : Picture) → u ≡ t8x8 → p ≡ source → HasPlans c t8x8 (planes_of source) → HasPlans c u (planes_of p)
 plans_at c t8x8 u source p e k h = subst (λ (b : Bool). HasPlans c b (planes_of p)) (sym e) (subst (λ (x : Picture). HasPlans c t8x8 (planes_of x)) (sym k) h)
 
--- a source of the coder's sizes
-pub alike : (c : PictureCoder) (width height slices : ℕ) (source p : Picture) → IsMadeFor c width height slices → HasSizes width height source → p ≡ source → SameShapes c.picture p
-alike c width height slices source p made sizes e = subst (λ (x : Picture). SameShapes c.picture x) (sym e) (sizes_agree width height c.picture source made.sizes sizes)
+-- a source of a film's sizes has those of the coder that was made for it
+pub alike : (c : PictureCoder) (width height slices : ℕ) (source p : Picture) → IsMadeFor c width height slices → HasSizes width height source → p ≡ source → HasSizesOf c p
+alike c width height slices source p made sizes e =
+    subst (λ (x : Picture). HasSizesOf c x) (sym e) (record {
+      luma = (sizes.luma.0 ∙ sym (again c.across width made.across), sizes.luma.1 ∙ sym (again c.down height made.down), sizes.luma.2);
+      cb = (sizes.cb.0 ∙ sym (halves c.across width made.across), sizes.cb.1 ∙ sym (halves c.down height made.down), sizes.cb.2);
+      cr = (sizes.cr.0 ∙ sym (halves c.across width made.across), sizes.cr.1 ∙ sym (halves c.down height made.down), sizes.cr.2);
+    })
+  where
+    again : (n size : ℕ) → n ≡ (size + 15) / 16 → rounded (16 * n) ≡ rounded size
+    again n size e = omega arith
+
+    halves : (n size : ℕ) → n ≡ (size + 15) / 16 → rounded (16 * n) / 2 ≡ rounded size / 2
+    halves n size e = ap (λ (k : ℕ). k / 2) (again n size e)
 
 -- ---- the access unit
 

@@ -1,5 +1,5 @@
 -- Sizes of a film's pictures.
-use Rattle.std.proofs.Common.{ℕ, ◌+◌, ◌*◌, ◌/◌, ◌%◌, ◌≡◌, ap, ◌∙◌, arith}
+use Rattle.std.proofs.Common.{ℕ, ◌/◌, ◌%◌, ◌≡◌, ap, ◌∙◌, arith}
 use Rattle.spec_film.specs.declared.FilmHead.{FilmHead}
 use Rattle.spec_film.specs.Films.{AllowedHead}
 use Rattle.picture_planes.specs.declared.picture.Picture.{Picture}

@@ -3,6 +3,7 @@ pub mod Closing
 pub mod Coders
 pub mod Films
 pub mod Leaving
+pub mod Lending
 pub mod Limits
 pub mod Outputs
 pub mod Pictures

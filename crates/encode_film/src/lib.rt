@@ -5,6 +5,8 @@ mod closing;
 mod ends;
 mod pictures;
 mod run;
+#[cfg(test)]
+mod tests;
 mod unit_coder;
 
 pub use ends::{EncodeEnd, SettingFault};

@@ -1,4 +1,6 @@
 // What codes a picture as one access unit.
+ghost use Rattle.std.specs.Borrow.{sem};
+
 use access_unit::{code_access_unit, plan_access_unit};
 use bit_strings::{BitBuf, Full};
 use enc_edge::Gate;
@@ -35,6 +37,7 @@ impl UnitCoder {
     ghost use Rattle.spec_encoding.specs.Encoding.{sequence_of, settled, encoded_picture};
     ghost use Rattle.picture_coder.specs.Sizes.{HasSizes};
     ghost use Rattle.encode_film.specs.Coders.{IsMadeFor};
+    ghost use Rattle.encode_film.specs.Lending.{LendsKept};
 
     /// A coder for pictures of a film with this head. `OutOfMemory`: its memory couldn't be had; `code` takes none.
     pub fn new(
@@ -89,9 +92,10 @@ impl UnitCoder {
         )
     }
 
-    /// The picture that it keeps.
-    pub fn decoded(&self) -> &Picture
-        ensures { result.now ≡ self.now.coder.picture }
+    /// Lends the picture that it keeps. It has to have its sizes and margins again when `code` is called.
+    pub fn decoded(&mut self) -> &mut Picture
+        ensures* writes_back { sem 𝓛 (LendsKept self.entry result) }
+        ensures value { result.now ≡ self.old.coder.picture }
     {
         self.coder.decoded()
     }

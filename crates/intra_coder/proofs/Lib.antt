@@ -1,7 +1,6 @@
 pub mod PartLaws
 pub mod BlockLaws
-pub mod NearLaws
-pub mod Gathered
+pub mod StripeLaws
 pub mod Standing
 pub mod InOrderLaws
 pub mod LumaLaws

@@ -1,2 +1,3 @@
+pub mod Stripes
 pub mod Made
 pub mod Reach

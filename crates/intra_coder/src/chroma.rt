@@ -1,7 +1,8 @@
 // The samples of a chroma component of intra macroblocks.
 ghost use Rattle.std.specs.Prelude.{◌≡◌, ◌≤◌, ◌<◌, ◌+◌, ◌*◌, ◌/◌, ◌%◌, ◌∷◌, ℕ, pos, true, length, slice_index};
 ghost use Rattle.intra_coder.specs.Made.{FoursQuantised, IsQuantised, others_chroma};
-ghost use Rattle.intra_coder.specs.Reach.{Reachable};
+ghost use Rattle.intra_coder.specs.Reach.{IsSource, Reachable};
+ghost use Rattle.intra_coder.specs.Stripes.{samples_from};
 ghost use Rattle.picture_planes.specs.Samples.{SameShape, samples_of};
 ghost use Rattle.spec_built.specs.Chroma.{build_chroma, chroma_ac, chroma_built, chroma_dc, chroma_qp, part_chroma, spectrum_chroma};
 ghost use Rattle.spec_built.specs.InOrder.{built_in_order, levels_of_block};
@@ -40,7 +41,8 @@ fn part_chroma(prediction: &[u8; 64], b: u32) -> [u8; 16]
 #[inline(always)]
 fn spectrum_chroma(source: &Plane, site: &Site, prediction: &[u8; 64], b: u32) -> [i32; 16]
     requires block { b < 4 }
-    requires stands { Reachable 8 source.now site.now.near (site.now.x / 2) (site.now.y / 2) }
+    requires columns { site.now.x / 2 + 8 ≤ source.now.width }
+    requires rows { site.now.y / 2 + 8 ≤ source.now.height }
     ensures value { result ≡ spectrum_chroma source.now.width site.now (samples_of source.now) prediction.now b }
     ensures small { AllWithin 16 9180 result }
     ensures first { Within 4080 (item result 0) }
@@ -77,7 +79,8 @@ struct Spectra {
 #[inline(always)]
 fn spectra_chroma(source: &Plane, site: &Site, qp: u8, prediction: &[u8; 64]) -> Spectra
     requires in_range { qp ≤ 51 }
-    requires stands { Reachable 8 source.now site.now.near (site.now.x / 2) (site.now.y / 2) }
+    requires columns { site.now.x / 2 + 8 ≤ source.now.width }
+    requires rows { site.now.y / 2 + 8 ≤ source.now.height }
     ensures firsts { result.firsts ≡ listed 4 (λ b. item (spectrum_chroma source.now.width site.now (samples_of source.now) prediction.now b) 0) }
     ensures small { AllWithin 4 4080 result.firsts }
     ensures ac { result.ac ≡ others_chroma source.now.width site.now qp (samples_of source.now) prediction.now }
@@ -114,6 +117,7 @@ fn block_levels(ac: &[i16; 60], b: u32) -> [i16; 16]
 #[inline(always)]
 fn build_block(
     plane: &mut Plane,
+    top: u32,
     site: &Site,
     qp: u8,
     prediction: &[u8; 64],
@@ -124,11 +128,12 @@ fn build_block(
     requires block { b < 4 }
     requires in_range { qp ≤ 51 }
     requires of_luma { qp ≡ chroma_qp site.now.qp }
-    requires stands { Reachable 8 plane.old site.now.near (site.now.x / 2) (site.now.y / 2) }
+    requires top { top < 2304 }
+    requires stands { Reachable 8 top plane.old site.now.near (site.now.x / 2) (site.now.y / 2) }
     requires dcs { AllWithin 4 1048576 dcs.now }
     requires quantised { IsQuantised Chroma4 qp (pos 0 ∷ levels_of_block 15 b ac.now) }
     ensures shape { SameShape plane.old plane.new }
-    ensures samples { samples_of plane.new ≡ build_chroma plane.old.width site.now prediction.now dcs.now b (levels_of_block 15 b ac.now) (samples_of plane.old) }
+    ensures samples { samples_from top plane.new ≡ build_chroma plane.old.width site.now prediction.now dcs.now b (levels_of_block 15 b ac.now) (samples_from top plane.old) }
 {
     let x = site.x / 2 + 4 * (b % 2);
     let y = site.y / 2 + 4 * (b / 2);
@@ -136,11 +141,12 @@ fn build_block(
     let block = block_levels(ac, b);
     let dc = dc_at(dcs, b);
     let samples = built_with_dc(BlockKind::Chroma4, qp, dc, &block, &part);
-    write_block(plane, x, y, 4, &samples);
+    write_block(plane, top, x, y, 4, &samples);
 }
 
 fn build_component(
     plane: &mut Plane,
+    top: u32,
     site: &Site,
     qp: u8,
     prediction: &[u8; 64],
@@ -149,14 +155,15 @@ fn build_component(
 )
     requires in_range { qp ≤ 51 }
     requires of_luma { qp ≡ chroma_qp site.now.qp }
-    requires stands { Reachable 8 plane.old site.now.near (site.now.x / 2) (site.now.y / 2) }
+    requires top { top < 2304 }
+    requires stands { Reachable 8 top plane.old site.now.near (site.now.x / 2) (site.now.y / 2) }
     requires dcs { AllWithin 4 1048576 dcs.now }
     requires quantised { FoursQuantised qp 4 ac.now }
     ensures shape { SameShape plane.old plane.new }
-    ensures samples { samples_of plane.new ≡ built_in_order (build_chroma plane.old.width site.now prediction.now dcs.now) 15 ac.now 4 (samples_of plane.old) }
+    ensures samples { samples_from top plane.new ≡ built_in_order (build_chroma plane.old.width site.now prediction.now dcs.now) 15 ac.now 4 (samples_from top plane.old) }
 {
     for b in 0..4u32 {
-        build_block(plane, site, qp, prediction, dcs, ac, b);
+        build_block(plane, top, site, qp, prediction, dcs, ac, b);
     }
 }
 
@@ -169,25 +176,26 @@ pub struct Chroma {
     pub ac: [i16; 60],
 }
 
-/// Codes a chroma component of an intra macroblock and builds its samples in the component's plane.
-pub fn code_chroma(plane: &mut Plane, source: &Plane, site: &Site, mode: u8) -> Chroma
+/// Codes a chroma component of an intra macroblock and builds its samples in the component's plane, which has the picture's rows from
+/// `top` on.
+pub fn code_chroma(plane: &mut Plane, top: u32, source: &Plane, site: &Site, mode: u8) -> Chroma
     requires in_range { site.now.qp ≤ 51 }
-    requires stands { Reachable 8 plane.old site.now.near (site.now.x / 2) (site.now.y / 2) }
-    requires alike { SameShape plane.old source.now }
+    requires stands { Reachable 8 top plane.old site.now.near (site.now.x / 2) (site.now.y / 2) }
+    requires source { IsSource 8 (site.now.y / 2) plane.old source.now }
     requires mode { mode < 4 }
     ensures shape { SameShape plane.old plane.new }
-    ensures dc { result.dc ≡ chroma_dc plane.old.width site.now mode (samples_of source.now) (samples_of plane.old) }
-    ensures ac { result.ac ≡ chroma_ac plane.old.width site.now mode (samples_of source.now) (samples_of plane.old) }
-    ensures samples { samples_of plane.new ≡ chroma_built plane.old.width site.now mode result.dc result.ac (samples_of plane.old) }
+    ensures dc { result.dc ≡ chroma_dc plane.old.width site.now mode (samples_of source.now) (samples_from top plane.old) }
+    ensures ac { result.ac ≡ chroma_ac plane.old.width site.now mode (samples_of source.now) (samples_from top plane.old) }
+    ensures samples { samples_from top plane.new ≡ chroma_built plane.old.width site.now mode result.dc result.ac (samples_from top plane.old) }
 {
     let qp = chroma_qp(site.qp);
-    let near = near_chroma(plane, &site.near, site.x / 2, site.y / 2);
+    let near = near_chroma(plane, top, &site.near, site.x / 2, site.y / 2);
     let prediction = pred_chroma(mode, &near);
     let spectra = spectra_chroma(source, site, qp, &prediction);
     let means = chroma_dc(&spectra.firsts);
     let quantised = quantise_chroma_dc(true, qp, &means);
     let dcs = rescale_chroma_dc(qp, &quantised.levels);
-    build_component(plane, site, qp, &prediction, &dcs, &spectra.ac);
+    build_component(plane, top, site, qp, &prediction, &dcs, &spectra.ac);
     Chroma {
         dc: quantised.levels,
         ac: spectra.ac,

@@ -2,7 +2,8 @@
 ghost use Rattle.std.specs.Prelude.{◌≡◌, ◌≤◌, ◌<◌, ◌+◌, ◌*◌, ◌/◌, ℕ, true, length, slice_index};
 ghost use Rattle.enc_tables.specs.declared.transform.TheConstants.{ZIGZAG4};
 ghost use Rattle.intra_coder.specs.Made.{BlocksQuantised, IsQuantised, others16};
-ghost use Rattle.intra_coder.specs.Reach.{Stands};
+ghost use Rattle.intra_coder.specs.Reach.{IsSource, Stands};
+ghost use Rattle.intra_coder.specs.Stripes.{samples_from};
 ghost use Rattle.picture_planes.specs.Samples.{SameShape, samples_of};
 ghost use Rattle.spec_built.specs.InOrder.{built_in_order, joined, levels_of_block};
 ghost use Rattle.spec_built.specs.Luma.{build16, firsts16, place16, luma16_built, luma16_dc, luma16_levels, part16, spectrum16, unscanned};
@@ -35,7 +36,8 @@ fn part16(prediction: &[u8; 256], b: u32) -> [u8; 16]
 #[inline(always)]
 fn spectrum16(source: &Plane, site: &Site, prediction: &[u8; 256], b: u32) -> [i32; 16]
     requires block { b < 16 }
-    requires stands { Stands site.now source.now }
+    requires columns { site.now.x + 16 ≤ source.now.width }
+    requires rows { site.now.y + 16 ≤ source.now.height }
     ensures value { result ≡ spectrum16 source.now.width site.now (samples_of source.now) prediction.now b }
     ensures small { AllWithin 16 9180 result }
     ensures first { Within 4080 (item result 0) }
@@ -91,7 +93,8 @@ struct Spectra {
 #[inline(always)]
 fn spectra16(source: &Plane, site: &Site, prediction: &[u8; 256]) -> Spectra
     requires in_range { site.now.qp ≤ 51 }
-    requires stands { Stands site.now source.now }
+    requires columns { site.now.x + 16 ≤ source.now.width }
+    requires rows { site.now.y + 16 ≤ source.now.height }
     ensures firsts { result.firsts ≡ firsts16 source.now.width site.now (samples_of source.now) prediction.now }
     ensures small { AllWithin 16 4080 result.firsts }
     ensures levels { result.levels ≡ others16 source.now.width site.now (samples_of source.now) prediction.now }
@@ -128,6 +131,7 @@ fn block_levels(levels: &[i16; 256], b: u32) -> [i16; 16]
 #[inline(always)]
 fn build_block16(
     plane: &mut Plane,
+    top: u32,
     site: &Site,
     prediction: &[u8; 256],
     dcs: &[i32; 16],
@@ -136,11 +140,12 @@ fn build_block16(
 )
     requires block { b < 16 }
     requires in_range { site.now.qp ≤ 51 }
-    requires stands { Stands site.now plane.old }
+    requires top { top < 2304 }
+    requires stands { Stands site.now top plane.old }
     requires dcs { AllWithin 16 1048576 dcs.now }
     requires quantised { IsQuantised Luma4 site.now.qp (levels_of_block 16 b levels.now) }
     ensures shape { SameShape plane.old plane.new }
-    ensures samples { samples_of plane.new ≡ build16 plane.old.width site.now prediction.now dcs.now b (levels_of_block 16 b levels.now) (samples_of plane.old) }
+    ensures samples { samples_from top plane.new ≡ build16 plane.old.width site.now prediction.now dcs.now b (levels_of_block 16 b levels.now) (samples_from top plane.old) }
 {
     let x = site.x + 4 * block_column(b);
     let y = site.y + 4 * block_row(b);
@@ -148,25 +153,27 @@ fn build_block16(
     let block = block_levels(levels, b);
     let dc = coefficient_at(dcs, place16(b));
     let samples = built_with_dc(BlockKind::Luma4, site.qp, dc, &block, &part);
-    write_block(plane, x, y, 4, &samples);
+    write_block(plane, top, x, y, 4, &samples);
 }
 
 fn build_luma16(
     plane: &mut Plane,
+    top: u32,
     site: &Site,
     prediction: &[u8; 256],
     dcs: &[i32; 16],
     levels: &[i16; 256],
 )
     requires in_range { site.now.qp ≤ 51 }
-    requires stands { Stands site.now plane.old }
+    requires top { top < 2304 }
+    requires stands { Stands site.now top plane.old }
     requires dcs { AllWithin 16 1048576 dcs.now }
     requires quantised { BlocksQuantised site.now.qp 16 levels.now }
     ensures shape { SameShape plane.old plane.new }
-    ensures samples { samples_of plane.new ≡ built_in_order (build16 plane.old.width site.now prediction.now dcs.now) 16 levels.now 16 (samples_of plane.old) }
+    ensures samples { samples_from top plane.new ≡ built_in_order (build16 plane.old.width site.now prediction.now dcs.now) 16 levels.now 16 (samples_from top plane.old) }
 {
     for b in 0..16u32 {
-        build_block16(plane, site, prediction, dcs, levels, b);
+        build_block16(plane, top, site, prediction, dcs, levels, b);
     }
 }
 
@@ -179,25 +186,25 @@ pub struct Luma16 {
     pub levels: [i16; 256],
 }
 
-/// Codes the luma samples of an Intra_16x16 macroblock and builds them in the plane.
-pub fn code_luma16(plane: &mut Plane, source: &Plane, site: &Site, mode: u8) -> Luma16
+/// Codes the luma samples of an Intra_16x16 macroblock and builds them in the plane, which has the picture's rows from `top` on.
+pub fn code_luma16(plane: &mut Plane, top: u32, source: &Plane, site: &Site, mode: u8) -> Luma16
     requires in_range { site.now.qp ≤ 51 }
-    requires stands { Stands site.now plane.old }
-    requires alike { SameShape plane.old source.now }
+    requires stands { Stands site.now top plane.old }
+    requires source { IsSource 16 site.now.y plane.old source.now }
     requires mode { mode < 4 }
     ensures shape { SameShape plane.old plane.new }
-    ensures dc { result.dc ≡ luma16_dc plane.old.width site.now mode (samples_of source.now) (samples_of plane.old) }
-    ensures levels { result.levels ≡ luma16_levels plane.old.width site.now mode (samples_of source.now) (samples_of plane.old) }
-    ensures samples { samples_of plane.new ≡ luma16_built plane.old.width site.now mode result.dc result.levels (samples_of plane.old) }
+    ensures dc { result.dc ≡ luma16_dc plane.old.width site.now mode (samples_of source.now) (samples_from top plane.old) }
+    ensures levels { result.levels ≡ luma16_levels plane.old.width site.now mode (samples_of source.now) (samples_from top plane.old) }
+    ensures samples { samples_from top plane.new ≡ luma16_built plane.old.width site.now mode result.dc result.levels (samples_from top plane.old) }
 {
-    let near = near16(plane, &site.near, site.x, site.y);
+    let near = near16(plane, top, &site.near, site.x, site.y);
     let prediction = pred16(mode, &near);
     let spectra = spectra16(source, site, &prediction);
     let means = luma_dc(&spectra.firsts);
     let quantised = quantise4(BlockKind::LumaDc, true, site.qp, &means);
     let rows = unscanned(&quantised.levels, site.qp);
     let dcs = rescale_luma_dc(site.qp, &rows);
-    build_luma16(plane, site, &prediction, &dcs, &spectra.levels);
+    build_luma16(plane, top, site, &prediction, &dcs, &spectra.levels);
     Luma16 {
         dc: quantised.levels,
         levels: spectra.levels,

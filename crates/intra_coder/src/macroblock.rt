@@ -1,6 +1,7 @@
 // Whole intra macroblocks and their records.
 ghost use Rattle.std.specs.Prelude.{◌≡◌, ◌≤◌, ◌<◌, ◌+◌, ◌*◌, ◌++◌, ◌∷◌, ℕ, length, replicate, slice_index, slice_range};
-ghost use Rattle.intra_coder.specs.Reach.{Reachable, Stands};
+ghost use Rattle.intra_coder.specs.Reach.{IsSource, Stands};
+ghost use Rattle.intra_coder.specs.Stripes.{planes_in};
 ghost use Rattle.picture_planes.specs.Pictures.{SameShapes, planes_of};
 ghost use Rattle.spec_built.specs.Chroma.{chroma_ac, chroma_built, chroma_dc};
 ghost use Rattle.spec_built.specs.Records.{bit_if, chroma_pattern, intra16_record, intra4_record, intra8_record, intra_built, intra_record, luma_pattern};
@@ -11,7 +12,7 @@ use crate::luma4::code_luma4;
 use crate::luma8::code_luma8;
 use crate::luma16::code_luma16;
 use enc_tables::{MbKind, MbRecord, Motion, Vector};
-use picture_planes::Picture;
+use picture_planes::{Picture, Stripe};
 use spec_built::Site;
 
 #[inline(always)]
@@ -119,26 +120,41 @@ fn first_mode(mode: u8) -> [u8; 16]
     modes
 }
 
-/// Codes an Intra_4x4 macroblock: its record, and the planes as a decoder builds them of it.
+/// Codes an Intra_4x4 macroblock: its record, and the stripe's planes as a decoder builds them of it. The site is one of the whole picture.
 pub fn code_intra4(
-    picture: &mut Picture,
+    stripe: &mut Stripe<'_>,
     source: &Picture,
     site: &Site,
     modes: &[u8; 16],
     chroma_mode: u8,
 ) -> MbRecord
     requires in_range { site.now.qp ≤ 51 }
-    requires stands { Stands site.now picture.old.y }
-    requires alike { SameShapes picture.old source.now }
+    requires stands { Stands site.now (16 * stripe.old.first) stripe.old.picture.now.y }
+    requires source { IsSource 16 site.now.y stripe.old.picture.now.y source.now.y }
     requires modes { (b : ℕ) → b < 16 → slice_index modes.now b < 9 }
     requires chroma_mode { chroma_mode < 4 }
-    ensures shapes { SameShapes picture.old picture.new }
-    ensures record { result ≡ intra4_record picture.old.y.width site.now modes.now chroma_mode (planes_of source.now) (planes_of picture.old) }
-    ensures planes { planes_of picture.new ≡ intra_built picture.old.y.width site.now result (planes_of picture.old) }
+    ensures same_reference { stripe.new.picture.ghost_name ≡ stripe.old.picture.ghost_name }
+    ensures first { stripe.new.first ≡ stripe.old.first }
+    ensures shapes { SameShapes stripe.old.picture.now stripe.new.picture.now }
+    ensures record { result ≡ intra4_record stripe.old.picture.now.y.width site.now modes.now chroma_mode (planes_of source.now) (planes_in stripe.old) }
+    ensures planes { planes_in stripe.new ≡ intra_built stripe.old.picture.now.y.width site.now result (planes_in stripe.old) }
 {
-    let levels = code_luma4(&mut picture.y, &source.y, site, modes);
-    let cb = code_chroma(&mut picture.cb, &source.cb, site, chroma_mode);
-    let cr = code_chroma(&mut picture.cr, &source.cr, site, chroma_mode);
+    let picture = &mut *stripe.picture;
+    let levels = code_luma4(&mut picture.y, 16 * stripe.first, &source.y, site, modes);
+    let cb = code_chroma(
+        &mut picture.cb,
+        8 * stripe.first,
+        &source.cb,
+        site,
+        chroma_mode,
+    );
+    let cr = code_chroma(
+        &mut picture.cr,
+        8 * stripe.first,
+        &source.cr,
+        site,
+        chroma_mode,
+    );
     let luma = Luma {
         kind: MbKind::Intra4,
         transform8: false,
@@ -154,24 +170,39 @@ pub fn code_intra4(
 
 /// Codes an Intra_8x8 macroblock. Of the modes the first four count; the others stand in the record as they are.
 pub fn code_intra8(
-    picture: &mut Picture,
+    stripe: &mut Stripe<'_>,
     source: &Picture,
     site: &Site,
     modes: &[u8; 16],
     chroma_mode: u8,
 ) -> MbRecord
     requires in_range { site.now.qp ≤ 51 }
-    requires stands { Stands site.now picture.old.y }
-    requires alike { SameShapes picture.old source.now }
+    requires stands { Stands site.now (16 * stripe.old.first) stripe.old.picture.now.y }
+    requires source { IsSource 16 site.now.y stripe.old.picture.now.y source.now.y }
     requires modes { (b : ℕ) → b < 4 → slice_index modes.now b < 9 }
     requires chroma_mode { chroma_mode < 4 }
-    ensures shapes { SameShapes picture.old picture.new }
-    ensures record { result ≡ intra8_record picture.old.y.width site.now modes.now chroma_mode (planes_of source.now) (planes_of picture.old) }
-    ensures planes { planes_of picture.new ≡ intra_built picture.old.y.width site.now result (planes_of picture.old) }
+    ensures same_reference { stripe.new.picture.ghost_name ≡ stripe.old.picture.ghost_name }
+    ensures first { stripe.new.first ≡ stripe.old.first }
+    ensures shapes { SameShapes stripe.old.picture.now stripe.new.picture.now }
+    ensures record { result ≡ intra8_record stripe.old.picture.now.y.width site.now modes.now chroma_mode (planes_of source.now) (planes_in stripe.old) }
+    ensures planes { planes_in stripe.new ≡ intra_built stripe.old.picture.now.y.width site.now result (planes_in stripe.old) }
 {
-    let levels = code_luma8(&mut picture.y, &source.y, site, modes);
-    let cb = code_chroma(&mut picture.cb, &source.cb, site, chroma_mode);
-    let cr = code_chroma(&mut picture.cr, &source.cr, site, chroma_mode);
+    let picture = &mut *stripe.picture;
+    let levels = code_luma8(&mut picture.y, 16 * stripe.first, &source.y, site, modes);
+    let cb = code_chroma(
+        &mut picture.cb,
+        8 * stripe.first,
+        &source.cb,
+        site,
+        chroma_mode,
+    );
+    let cr = code_chroma(
+        &mut picture.cr,
+        8 * stripe.first,
+        &source.cr,
+        site,
+        chroma_mode,
+    );
     let luma = Luma {
         kind: MbKind::Intra8,
         transform8: true,
@@ -187,24 +218,39 @@ pub fn code_intra8(
 
 /// Codes an Intra_16x16 macroblock.
 pub fn code_intra16(
-    picture: &mut Picture,
+    stripe: &mut Stripe<'_>,
     source: &Picture,
     site: &Site,
     mode: u8,
     chroma_mode: u8,
 ) -> MbRecord
     requires in_range { site.now.qp ≤ 51 }
-    requires stands { Stands site.now picture.old.y }
-    requires alike { SameShapes picture.old source.now }
+    requires stands { Stands site.now (16 * stripe.old.first) stripe.old.picture.now.y }
+    requires source { IsSource 16 site.now.y stripe.old.picture.now.y source.now.y }
     requires mode { mode < 4 }
     requires chroma_mode { chroma_mode < 4 }
-    ensures shapes { SameShapes picture.old picture.new }
-    ensures record { result ≡ intra16_record picture.old.y.width site.now mode chroma_mode (planes_of source.now) (planes_of picture.old) }
-    ensures planes { planes_of picture.new ≡ intra_built picture.old.y.width site.now result (planes_of picture.old) }
+    ensures same_reference { stripe.new.picture.ghost_name ≡ stripe.old.picture.ghost_name }
+    ensures first { stripe.new.first ≡ stripe.old.first }
+    ensures shapes { SameShapes stripe.old.picture.now stripe.new.picture.now }
+    ensures record { result ≡ intra16_record stripe.old.picture.now.y.width site.now mode chroma_mode (planes_of source.now) (planes_in stripe.old) }
+    ensures planes { planes_in stripe.new ≡ intra_built stripe.old.picture.now.y.width site.now result (planes_in stripe.old) }
 {
-    let coded = code_luma16(&mut picture.y, &source.y, site, mode);
-    let cb = code_chroma(&mut picture.cb, &source.cb, site, chroma_mode);
-    let cr = code_chroma(&mut picture.cr, &source.cr, site, chroma_mode);
+    let picture = &mut *stripe.picture;
+    let coded = code_luma16(&mut picture.y, 16 * stripe.first, &source.y, site, mode);
+    let cb = code_chroma(
+        &mut picture.cb,
+        8 * stripe.first,
+        &source.cb,
+        site,
+        chroma_mode,
+    );
+    let cr = code_chroma(
+        &mut picture.cr,
+        8 * stripe.first,
+        &source.cr,
+        site,
+        chroma_mode,
+    );
     let luma = Luma {
         kind: MbKind::Intra16,
         transform8: false,

@@ -1,32 +1,15 @@
 // Square parts of planes.
 ghost use Rattle.std.specs.Prelude.{◌≡◌, ◌≤◌, ◌<◌, ◌+◌, ◌*◌, length};
 ghost use Rattle.picture_planes.specs.Samples.{SameShape, samples_of};
+ghost use Rattle.intra_coder.specs.Stripes.{samples_from};
 ghost use Rattle.spec_built.specs.Parts.{block_at, column_part, row_part, with_block};
 
 use picture_planes::Plane;
+use plane_blocks::read_block;
 
-/// Copies the block of `n` by `n` samples whose upper left one is at (`x`, `y`), row by row.
+// Writes a block of `n` by `n` samples, row by row, with its upper left one at (`x`, `y`).
 #[inline(always)]
-pub fn read_block(plane: &Plane, x: u32, y: u32, n: u32, out: &mut [u8])
-    requires columns { x + n ≤ plane.now.width }
-    requires rows { y + n ≤ plane.now.height }
-    requires room { length out.old ≡ n * n }
-    ensures { out.new ≡ block_at plane.now.width x y n (samples_of plane.now) }
-{
-    let side = n as usize;
-    let from = x as usize;
-    let to = from + side;
-    for j in 0..n {
-        let start = j as usize * side;
-        let end = start + side;
-        let row = plane.row(y + j);
-        out[start..end].copy_from_slice(&row[from..to]);
-    }
-}
-
-/// Writes a block of `n` by `n` samples, row by row, with its upper left one at (`x`, `y`).
-#[inline(always)]
-pub fn write_block(plane: &mut Plane, x: u32, y: u32, n: u32, block: &[u8])
+fn write_rows(plane: &mut Plane, x: u32, y: u32, n: u32, block: &[u8])
     requires columns { x + n ≤ plane.old.width }
     requires rows { y + n ≤ plane.old.height }
     requires size { length block.now ≡ n * n }
@@ -42,6 +25,20 @@ pub fn write_block(plane: &mut Plane, x: u32, y: u32, n: u32, block: &[u8])
         let row = plane.row_mut(y + j);
         row[from..to].copy_from_slice(&block[start..end]);
     }
+}
+
+/// Writes a block of `n` by `n` samples with its upper left one at (`x`, `y`) of a larger plane, of which `plane` has the rows from `top`
+/// on.
+#[inline(always)]
+pub fn write_block(plane: &mut Plane, top: u32, x: u32, y: u32, n: u32, block: &[u8])
+    requires columns { x + n ≤ plane.old.width }
+    requires begins { top ≤ y }
+    requires rows { y + n ≤ top + plane.old.height }
+    requires size { length block.now ≡ n * n }
+    ensures shape { SameShape plane.old plane.new }
+    ensures samples { samples_from top plane.new ≡ with_block plane.old.width x y n block.now (samples_from top plane.old) }
+{
+    write_rows(plane, x, y - top, n, block);
 }
 
 /// The block of 4 by 4 samples at (`x`, `y`), row by row.

@@ -43,7 +43,8 @@ pub fn site_of(width: u32, first: u32, address: u32, qp: u8) -> Site
     }
 }
 
-/// A macroblock of a picture lies inside the picture's luma plane, and so do its available neighbours.
+/// A macroblock of a slice lies inside the luma plane of each stripe that has the slice's first row and the macroblock's own, and so do its
+/// available neighbours. The slice begins with macroblock row `row`, the stripe with macroblock row `top`.
 pub fn sites_stand()
-    ensures { (width rows first address qp : ℕ) (plane : Plane) → 0 < width → address < width * rows → plane.width ≡ 16 * width → plane.height ≡ 16 * rows → Stands (site_of width first address qp) plane }
+    ensures { (width rows row top address qp : ℕ) (plane : Plane) → 0 < width → top ≤ row → row * width ≤ address → address < width * (top + rows) → plane.width ≡ 16 * width → plane.height ≡ 16 * rows → Stands (site_of width (row * width) address qp) (16 * top) plane }
 {}

@@ -1,7 +1,9 @@
 pub mod Sharing
 pub mod Sizes
+pub mod OwnSizes
 pub mod Planning
 pub mod Written
 pub mod SliceRows
+pub mod WholeStripes
 pub mod Filtered
 pub mod Streams

@@ -75,7 +75,7 @@ sixteenth w a e = omega arith
 
 -- ---- blank planes
 
-three : (a b c a' b' c' : List ℕ) → a ≡ a' → b ≡ b' → c ≡ c' → (let p : Planes = record { luma = a; cb = b; cr = c } in let q : Planes = record { luma = a'; cb = b'; cr = c' } in p ≡ q)
+pub three : (a b c a' b' c' : List ℕ) → a ≡ a' → b ≡ b' → c ≡ c' → (let p : Planes = record { luma = a; cb = b; cr = c } in let q : Planes = record { luma = a'; cb = b'; cr = c' } in p ≡ q)
 three a b c a' b' c' e f g =
     ap (λ (x : List ℕ). let p : Planes = record { luma = x; cb = b; cr = c } in p) e
     ∙ ap (λ (x : List ℕ). let p : Planes = record { luma = a'; cb = x; cr = c } in p) f

@@ -100,6 +100,17 @@ pub record IsGiven (c : Coding) (p : Picture) (k first end n : ℕ) (h : SliceHe
   pub head : h ≡ idr_head (first * c.across) 0 c.idr_id 0 c.qp true
   pub count : n ≡ (end - first) * (p.y.width / 16)
 
+pub given_slice : (c : Coding) (p : Picture) (k first end from to : ℕ) (h : SliceHead) (records : List MbRecord) → IsCoding c p → first ≡ row_at c.slices c.down k → end ≡ row_at c.slices c.down (k + 1) → first < end
+    → h ≡ idr_head (first * c.across) 0 c.idr_id 0 c.qp true → from ≡ first * c.across → to ≡ end * c.across → to ≤ length records → IsGiven c p k first end (length (take (to - from) (drop from records))) h
+given_slice c p k first end from to h records is a b some head f g inside = record {
+  coding = is;
+  first_is = a;
+  end_is = b;
+  order = omega (arith, some);
+  head = head;
+  count = lent first end c.across (p.y.width / 16) from to records f g (omega (arith, some)) inside (sixteenth p.y.width c.across is.wide);
+}
+
 pub slice_is : (c : Coding) (p : Picture) (k first end n : ℕ) (h : SliceHead) (source before : Planes) → IsGiven c p k first end n h → coded (place_of p first c.t8x8) h source before n ≡ slice_at c source k before
 slice_is c p k first end n h source before g =
     let wide = sixteenth p.y.width c.across g.coding.wide in

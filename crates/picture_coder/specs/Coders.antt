@@ -1,5 +1,6 @@
 -- What a coder of pictures holds, and what it makes of a job.
 use Rattle.std.specs.Prelude.{ℕ, Bool, List, ◌≡◌, ◌+◌, ◌*◌, ◌/◌}
+use Rattle.picture_planes.specs.declared.picture.Picture.{Picture}
 use Rattle.picture_planes.specs.Pictures.{SameShapes}
 use Rattle.spec_bits.specs.Bits.{bits_of_bytes}
 use Rattle.spec_film.specs.Films.{Planes}
@@ -16,6 +17,14 @@ pub record IsMadeFor (c : PictureCoder) (width height slices : ℕ) : Type 0 whe
   pub down : c.down ≡ (height + 15) / 16
   pub slices_are : c.slices ≡ slices
   pub sizes : HasSizes width height c.picture
+
+-- a picture has this coder's size and the margins of its own
+abbrev pub HasSizesOf : PictureCoder → Picture → Type 0
+HasSizesOf c p = HasSizes (16 * c.across) (16 * c.down) p
+
+-- so has the picture that it lends
+abbrev pub HasOwnSizes : PictureCoder → Type 0
+HasOwnSizes c = HasSizesOf c c.picture
 
 -- all rows of a source are planned, each as a row of its slice
 abbrev pub HasPlans : PictureCoder → Bool → Planes → Type 0

@@ -3,3 +3,4 @@ pub mod Planned
 pub mod Slices
 pub mod Pictures
 pub mod Coders
+pub mod Lending

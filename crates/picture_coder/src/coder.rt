@@ -1,5 +1,6 @@
 // A coder of pictures, with all its memory.
 ghost use Rattle.std.specs.Prelude.{◌≡◌, ◌≤◌, ◌<◌, ◌+◌, ◌*◌, vec_len, Some, []};
+ghost use Rattle.std.specs.Borrow.{sem};
 ghost use Rattle.picture_coder.specs.Planned.{AreRows};
 
 use crate::coding::Coding;
@@ -32,8 +33,6 @@ pub struct PictureCoder {
     ghost across_fits: { (1 ≤ across) × (across ≤ 256) },
     ghost down_fits: { (1 ≤ down) × (down ≤ 144) },
     ghost slices_fit: { (1 ≤ slices) × (slices ≤ down) },
-    ghost wide: { picture.y.width ≡ 16 * across },
-    ghost high: { picture.y.height ≡ 16 * down },
     ghost plan_count: { vec_len plans ≡ down },
     ghost rows: { AreRows across plans.items },
     ghost record_count: { vec_len records ≡ down * across },
@@ -46,7 +45,8 @@ impl PictureCoder {
     ghost use Rattle.picture_planes.specs.Pictures.{planes_of, SameShapes};
     ghost use Rattle.bit_strings.specs.BitText.{Appends};
     ghost use Rattle.spec_encoding.specs.Frames.{picture_of};
-    ghost use Rattle.picture_coder.specs.Coders.{IsMadeFor, HasPlans, OnlyPlansDiffer, OnlyPictureDiffers, slices_for, bits_for};
+    ghost use Rattle.picture_coder.specs.Coders.{IsMadeFor, HasOwnSizes, HasPlans, HasSizesOf, OnlyPlansDiffer, OnlyPictureDiffers, slices_for, bits_for};
+    ghost use Rattle.picture_coder.specs.Lending.{LendsPicture};
 
     /// A coder of pictures of this size, each of so many slices. Width and height are in luma samples, and are rounded up to multiples
     /// of 16. A payload has room for `cpb` bits, or for 128 bits a macroblock and 1024 more where that is greater.
@@ -62,6 +62,7 @@ impl PictureCoder {
         requires some { 1 ≤ slices }
         requires few { slices ≤ (height + 15) / 16 }
         ensures made { IfOk result (λ c. IsMadeFor c width height slices) }
+        ensures sizes { IfOk result (λ c. HasOwnSizes c) }
         ensures room { IfOk result (λ c. max cpb (128 * (c.down * c.across) + 1024) ≤ c.room) }
     {
         let across = (width + 15) / 16;
@@ -91,16 +92,22 @@ impl PictureCoder {
         self.room
     }
 
-    /// The picture that was coded last, as a decoder shows it, not cropped.
-    pub fn decoded(&self) -> &Picture
-        ensures { result.now ≡ self.now.picture }
+    /// Lends the picture that was coded last, as a decoder shows it, not cropped. Before the first `code` and after `Full` its samples
+    /// aren't told.
+    ///
+    /// The caller may write to it as it likes: fill its margins, change samples, or put another picture in its place. What it leaves there
+    /// stays until the next `code`. `plan` doesn't read it, and `code` makes all its samples anew, so nothing that is written through it
+    /// changes what is coded. The caller may not leave a picture of other sizes or margins there for a later `code`.
+    pub fn decoded(&mut self) -> &mut Picture
+        ensures* writes_back { sem 𝓛 (LendsPicture self.entry result) }
+        ensures value { result.now ≡ self.old.picture }
     {
-        &self.picture
+        &mut self.picture
     }
 
     /// Plans all rows of the job's source, each as a row of its slice. The gate is asked before each row.
     pub fn plan<R, G: Gate + Sync>(&mut self, _rt: &R, job: &Job, gate: &G)
-        requires source { SameShapes self.old.picture job.now.source.now }
+        requires source { HasSizesOf self.old job.now.source.now }
         requires slices { job.now.slices ≡ self.old.slices }
         requires intra { job.now.step.kind ≡ I }
         requires idr { job.now.step.idr ≡ true }
@@ -117,12 +124,14 @@ impl PictureCoder {
     }
 
     /// Codes the picture by the plans that were made of it, with this quantisation parameter, and appends the units of its slices: the
-    /// first one has a start code of four bytes where `out` was empty. `decoded` is then the picture that a decoder shows.
+    /// first one has a start code of four bytes where `out` was empty. The picture that `decoded` lends has the coder's size and margins
+    /// when it is called, and is then the one that a decoder shows.
     ///
     /// `Full` comes exactly where the units don't fit the room of `out`, which is then as before. The plans stay in any case, so
     /// that the picture may be coded again with another parameter.
     pub fn code<R>(&mut self, _rt: &R, job: &Job, qp: u8, out: &mut BitBuf) -> Result<(), Full>
-        requires source { SameShapes self.old.picture job.now.source.now }
+        requires sizes { HasOwnSizes self.old }
+        requires source { HasSizesOf self.old job.now.source.now }
         requires slices { job.now.slices ≡ self.old.slices }
         requires intra { job.now.step.kind ≡ I }
         requires idr { job.now.step.idr ≡ true }
@@ -133,6 +142,7 @@ impl PictureCoder {
         requires whole { length out.old.text % 8 ≡ 0 }
         ensures units { Appends out.old out.new (bits_for self.old job.now.t8x8 (length out.old.text == 0) (slices_for self.old job.now.t8x8 qp job.now.idr_id (planes_of job.now.source.now))) result }
         ensures decoded { OnOk result (planes_of self.new.picture ≡ picture_of self.old.across self.old.down (slices_for self.old job.now.t8x8 qp job.now.idr_id (planes_of job.now.source.now))) }
+        ensures sizes { HasOwnSizes self.new }
         ensures planned { HasPlans self.new job.now.t8x8 (planes_of job.now.source.now) }
         ensures others { OnlyPictureDiffers self.old self.new }
     {

@@ -93,7 +93,7 @@ fn code_rows(
     let head = head_for(coding, rows.0);
     let (from, to) = macroblocks_of(rows, coding.across);
     code_slice(
-        picture,
+        &mut picture.stripe(),
         source,
         &plans[rows.0 as usize..rows.1 as usize],
         &head,

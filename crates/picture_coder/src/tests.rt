@@ -91,3 +91,41 @@ fn filters_across_slices(rt: HostRuntime) -> Result<(), Fail> {
     );
     Ok(())
 }
+
+#[test]
+fn codes_nothing_of_the_picture_that_it_lends(rt: HostRuntime) -> Result<(), Fail> {
+    let alloc = rt.alloc();
+    let mut source = Picture::new(alloc, 16, 16)?;
+    source.y.set_rows(0, 16, &[128; 256]);
+    source.cb.set_rows(0, 8, &[128; 64]);
+    source.cr.set_rows(0, 8, &[128; 64]);
+    let job = Job {
+        source: &source,
+        step: IDR,
+        idr_id: 0,
+        slices: 1,
+        t8x8: true,
+    };
+    let mut coder = PictureCoder::new(alloc, 16, 16, 1, 0)?;
+    let mut out = BitBuf::with_room(alloc, 32)?;
+    coder.plan(&rt, &job, &OpenGate);
+    coder.decoded().y.set_rows(0, 16, &[7; 256]);
+    assert_eq!(rt; coder.decoded().y.get(3, 3), 7);
+    coder.code(&rt, &job, 24, &mut out)?;
+    assert!(rt; out.len() % 8 == 0);
+    assert_eq!(rt; coder.decoded().y.get(3, 3), 128);
+    *coder.decoded() = Picture::new(alloc, 16, 16)?;
+    assert_eq!(rt; coder.decoded().y.get(3, 3), 0);
+    coder.code(&rt, &job, 24, &mut out)?;
+    assert!(rt; out.len() % 8 == 0);
+    assert_eq!(rt;
+        out.bytes(),
+        [
+            0, 0, 0, 1, 0x65, 0x88, 0x80, 0, 0x40, 0, 2, 0xFF, 0xFE, 0xD6, 0xDF, 0x80, 0, 0, 1,
+            0x65, 0x88, 0x80, 0, 0x40, 0, 2, 0xFF, 0xFE, 0xD6, 0xDF, 0x80,
+        ]
+        .as_slice()
+    );
+    assert_eq!(rt; coder.decoded().y.get(3, 3), 128);
+    Ok(())
+}

@@ -8,18 +8,19 @@ use Rattle.enc_tables.specs.declared.records.MbRecord.{MbRecord}
 use Rattle.enc_tables.specs.declared.records.SliceKind.TheVariants.{I}
 use Rattle.enc_tables.specs.declared.plans.RowPlan.{RowPlan}
 use Rattle.enc_tables.specs.Choice.{choice, SmallCosts}
-use Rattle.picture_planes.specs.declared.picture.Picture.{Picture}
+use Rattle.picture_planes.specs.declared.plane.Plane.{Plane}
+use Rattle.picture_planes.specs.declared.stripe.Stripe.{Stripe}
 use Rattle.spec_film.specs.Films.{Planes}
 use Rattle.spec_built.specs.declared.Site.{Site}
 use Rattle.spec_built.specs.Records.{site_of, intra_built, macroblock_built}
 use Rattle.spec_built.specs.Slices.{coded_record}
 use Rattle.spec_records.specs.Coded.{ModesFit}
 use Rattle.spec_records.proofs.Plans.{plans_fit}
-use Rattle.intra_coder.specs.Reach.{Stands}
-use Rattle.intra_coder.proofs.Standing.{stands_in}
+use Rattle.intra_coder.specs.Reach.{IsSource, Stands}
 use Rattle.slice_coder.specs.declared.place.Place.{Place}
-use Rattle.slice_coder.specs.Plans.{plan_at, ArePlanned, IsWhole}
-use Rattle.slice_coder.proofs.Planned.{all_full, is_plan, is_small}
+use Rattle.slice_coder.specs.Plans.{plan_at, ArePlanned, HoldsRows}
+use Rattle.slice_coder.proofs.Planned.{row_of, all_full, is_plan, is_small}
+use Rattle.slice_coder.proofs.Shapes.{row_inside}
 use Rattle.slice_coder.proofs.Building.{built_is}
 
 -- ---- modes
@@ -58,11 +59,36 @@ plan_fits place source address plan e = subst (λ (p : MbPlan). ModesFit p) (sym
 
 -- ---- the place
 
-pub stands_at : (p : Picture) (across first address qp : ℕ) (site : Site) → site ≡ site_of across first address qp → p.y.width ≡ 16 * across → IsWhole p → address < across * (p.y.height / 16) → 0 < across → Stands site p.y
-stands_at p across first address qp site e w whole inside some =
-    let rows : p.y.height % 16 ≡ 0 = whole.rows in
-    let high : p.y.height ≡ 16 * (p.y.height / 16) = omega arith in
-    subst (λ (s : Site). Stands s p.y) (sym e) (stands_in across (p.y.height / 16) first address qp p.y some inside w high)
+-- a macroblock of the slice stands in each stripe that has the slice's rows, as it does in one that has more of them
+pub stands_at : (s : Stripe) (whole : Plane) (row count across n qp : ℕ) (site : Site) → site ≡ site_of across (row * across) (row * across + n) qp → 0 < across → n / across < count → HoldsRows s row (row + count)
+    → s.picture.now.y.width ≡ whole.width → Stands (site_of across (row * across) (row * across + n) qp) (16 * s.first) whole → Stands site (16 * s.first) s.picture.now.y
+stands_at s whole row count across n qp site e some inside holds w st =
+    let below : (row * across + n) / across ≡ row + n / across = row_of n row across some in
+    let ends : 16 * (row + count) ≤ 16 * s.first + s.picture.now.y.height = holds.ends in
+    subst (λ (t : Site). Stands t (16 * s.first) s.picture.now.y) (sym e) record {
+      columns = (let k = st.columns in omega arith);
+      begins = st.begins;
+      rows = omega arith;
+      left = st.left;
+      above = st.above;
+      corner_left = st.corner_left;
+      corner_above = st.corner_above;
+      beyond = λ h. (let k = st.beyond h in omega arith);
+      beyond_above = st.beyond_above;
+    }
+
+-- with rows above it a plane has more macroblocks
+pub more_rows : (across top down n : ℕ) → n < across * down → n < across * (top + down)
+more_rows across top down n h =
+    let e : across * (top + down) ≡ across * top + across * down = grind arith in
+    omega arith
+
+-- and the source has its block
+pub source_at : (source plane : Plane) (across first address qp : ℕ) (site : Site) → site ≡ site_of across first address qp → 0 < across → address < across * (source.height / 16) → plane.width ≡ source.width → IsSource 16 site.y plane source
+source_at source plane across first address qp site e some inside w =
+    let turned : source.height / 16 * across ≡ across * (source.height / 16) = grind arith in
+    let row : address / across < source.height / 16 = row_inside address (source.height / 16) across some (omega arith) in
+    subst (λ (t : Site). IsSource 16 t.y plane source) (sym e) record { wide = sym w; rows = omega arith }
 
 -- ---- the record and what is built of it
 

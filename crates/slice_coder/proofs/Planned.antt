@@ -13,7 +13,7 @@ use Rattle.slice_coder.specs.declared.place.Place.{Place}
 use Rattle.slice_coder.specs.Plans.{plan_at, IsPlanned, ArePlanned}
 
 -- the row and the column of macroblock n behind so many whole rows
-row_of : (n row across : ℕ) → 0 < across → (row * across + n) / across ≡ row + n / across
+pub row_of : (n row across : ℕ) → 0 < across → (row * across + n) / across ≡ row + n / across
 row_of n row across some =
     let turned : row * across + n ≡ n + row * across = omega arith in
     ap (λ (k : ℕ). k / across) turned ∙ add-mul-div_right n row some ∙ (let e : n / across + row ≡ row + n / across = omega arith in e)

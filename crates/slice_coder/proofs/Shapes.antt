@@ -6,13 +6,11 @@ use Rattle.picture_planes.specs.declared.plane.Plane.{Plane}
 use Rattle.picture_planes.specs.declared.picture.Picture.{Picture}
 use Rattle.picture_planes.specs.Samples.{SameShape}
 use Rattle.picture_planes.specs.Pictures.{SameShapes}
-use Rattle.slice_coder.specs.Plans.{IsWhole}
+use Rattle.picture_planes.specs.declared.stripe.Stripe.{Stripe}
+use Rattle.slice_coder.specs.Plans.{HoldsRows, IsWhole}
 
 shape_same : (a : Plane) → SameShape a a
 shape_same a = (refl, refl, refl)
-
-shape_to : (a b c : Plane) → SameShape a b → SameShape a c → SameShape b c
-shape_to a b c (p, q, r) (s, t, u) = (s ∙ sym p, t ∙ sym q, u ∙ sym r)
 
 shape_then : (a b c : Plane) → SameShape a b → SameShape b c → SameShape a c
 shape_then a b c (p, q, r) (s, t, u) = (s ∙ p, t ∙ q, u ∙ r)
@@ -20,23 +18,18 @@ shape_then a b c (p, q, r) (s, t, u) = (s ∙ p, t ∙ q, u ∙ r)
 pub shapes_same : (a : Picture) → SameShapes a a
 shapes_same a = (shape_same a.y, shape_same a.cb, shape_same a.cr)
 
-pub shapes_to : (a b c : Picture) → SameShapes a b → SameShapes a c → SameShapes b c
-shapes_to a b c (p, q, r) (s, t, u) = (shape_to a.y b.y c.y p s, shape_to a.cb b.cb c.cb q t, shape_to a.cr b.cr c.cr r u)
-
 pub shapes_then : (a b c : Picture) → SameShapes a b → SameShapes b c → SameShapes a c
 shapes_then a b c (p, q, r) (s, t, u) = (shape_then a.y b.y c.y p s, shape_then a.cb b.cb c.cb q t, shape_then a.cr b.cr c.cr r u)
 
 pub width_kept : (a b : Picture) → SameShapes a b → b.y.width ≡ a.y.width
 width_kept a b ((w, h, p), q, r) = w
 
-pub height_kept : (a b : Picture) → SameShapes a b → b.y.height ≡ a.y.height
-height_kept a b ((w, h, p), q, r) = h
-
-pub whole_kept : (a b : Picture) → SameShapes a b → IsWhole a → IsWhole b
-whole_kept a b s w = record {
-  columns = ap (λ (n : ℕ). n % 16) (width_kept a b s) ∙ w.columns;
-  rows = ap (λ (n : ℕ). n % 16) (height_kept a b s) ∙ w.rows;
-}
+-- a stripe that is coded into keeps its rows
+pub holds_kept : (s t : Stripe) (a b : ℕ) → t.first ≡ s.first → SameShapes s.picture.now t.picture.now → HoldsRows s a b → HoldsRows t a b
+holds_kept s t a b f ((w, h, p), q, r) holds =
+    let ends : 16 * b ≤ 16 * s.first + s.picture.now.y.height = holds.ends in
+    let begins : s.first ≤ a = holds.begins in
+    record { begins = omega arith; ends = omega arith }
 
 -- a macroblock of so many whole rows is in one of them
 pub row_inside : (n rows across : ℕ) → 0 < across → n < rows * across → n / across < rows
@@ -70,5 +63,10 @@ some_macroblocks count a b across c h k =
 pub some_across : (p : Picture) → IsWhole p → 0 < p.y.width / 16
 some_across p w =
     let whole : p.y.width % 16 ≡ 0 = w.columns in
+    let some : 0 < p.y.width = p.y.size.0 in
+    omega arith
+
+pub across_some : (p : Picture) (across : ℕ) → p.y.width ≡ 16 * across → 0 < across
+across_some p across w =
     let some : 0 < p.y.width = p.y.size.0 in
     omega arith

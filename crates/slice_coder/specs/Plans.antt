@@ -1,5 +1,5 @@
 -- What a slice of an IDR picture is coded by: its place, and the plans of its rows of macroblocks.
-use Rattle.std.specs.Prelude.{◌≡◌, ℕ, ◌+◌, ◌*◌, ◌/◌, ◌%◌, ◌<◌, Bool, List, length, get_or, vec_len}
+use Rattle.std.specs.Prelude.{◌≡◌, ℕ, ◌+◌, ◌*◌, ◌/◌, ◌%◌, ◌<◌, ◌≤◌, Bool, List, length, get_or, vec_len}
 use Rattle.std.specs.List.{All}
 use Rattle.enc_tables.specs.declared.records.MbKind.{MbKind}
 use Rattle.enc_tables.specs.declared.records.MbPlan.{MbPlan}
@@ -8,6 +8,7 @@ use Rattle.enc_tables.specs.declared.records.SliceKind.TheVariants.{I}
 use Rattle.enc_tables.specs.declared.plans.RowPlan.{RowPlan}
 use Rattle.enc_tables.specs.Choice.{choice, SmallCosts}
 use Rattle.picture_planes.specs.declared.picture.Picture.{Picture}
+use Rattle.picture_planes.specs.declared.stripe.Stripe.{Stripe}
 use Rattle.spec_film.specs.Films.{Planes}
 use Rattle.spec_bits.specs.declared.heads.SliceHead.{SliceHead}
 use Rattle.spec_built.specs.Slices.{coded_slice}
@@ -52,3 +53,8 @@ coded place h source before count = record { head = h; records = records_to plac
 pub record IsWhole (p : Picture) : Type 0 where
   pub columns : p.y.width % 16 ≡ 0
   pub rows : p.y.height % 16 ≡ 0
+
+-- the stripe has the rows of macroblocks from `from` to `to` - 1
+pub record HoldsRows (s : Stripe) (from to : ℕ) : Type 0 where
+  pub begins : s.first ≤ from
+  pub ends : 16 * to ≤ 16 * s.first + s.picture.now.y.height

@@ -3,28 +3,29 @@ ghost use Rattle.std.specs.Prelude.{◌≡◌, ◌≤◌, ◌<◌, ◌-◌, ◌*
 ghost use Rattle.picture_planes.specs.Pictures.{SameShapes, planes_of};
 ghost use Rattle.spec_slice_layer.specs.Layer.{IsIdrHead, IsSlice, layer_bits, layer_payload, read_layer};
 ghost use Rattle.spec_built.specs.Records.{slice_built};
-ghost use Rattle.slice_coder.specs.Plans.{ArePlanned, IsWhole, place_of, format_of, records_to, coded};
+ghost use Rattle.intra_coder.specs.Stripes.{planes_in};
+ghost use Rattle.slice_coder.specs.Plans.{ArePlanned, HoldsRows, IsWhole, place_of, format_of, records_to, coded};
 ghost use Rattle.slice_coder.specs.Left.{Leaves};
 
 use crate::close::close;
 use crate::data::code_macroblocks;
 use crate::place::Place;
-use crate::samples::samples_fit;
+use crate::samples::{samples_fit, stripe_fits};
 use bit_strings::{BitBuf, Full};
 use cabac_coder::Coder;
 use cabac_contexts::Contexts;
 use enc_tables::{MbRecord, RowPlan};
 use param_sets::write_slice_head;
-use picture_planes::Picture;
+use picture_planes::{Picture, Stripe};
 use spec_bits::SliceHead;
 
-/// Codes a slice of an IDR picture: the rows of macroblocks from `rows.0` to `rows.1` - 1 of the source, by their plans. `picture` gets
-/// their samples as a decoder builds them before the loop filter, `records` the macroblocks' records, and `buf`, which is empty, the
-/// payload of the slice's unit with zeros to the byte (ITU-T H.264, clause 7.3.2.8).
+/// Codes a slice of an IDR picture: the rows of macroblocks from `rows.0` to `rows.1` - 1 of the source, by their plans. `stripe` has these
+/// rows at least, and gets their samples as a decoder builds them before the loop filter; all its other samples stay. `records` gets the
+/// macroblocks' records, and `buf`, which is empty, the payload of the slice's unit with zeros to the byte (ITU-T H.264, clause 7.3.2.8).
 ///
 /// `Full` comes exactly where the payload passes the buffer's room. The buffer is then empty, and samples and records aren't told.
 pub fn code_slice(
-    picture: &mut Picture,
+    stripe: &mut Stripe<'_>,
     source: &Picture,
     plans: &[RowPlan],
     head: &SliceHead,
@@ -33,28 +34,31 @@ pub fn code_slice(
     records: &mut [MbRecord],
     mut buf: BitBuf,
 ) -> (Result<(), Full>, BitBuf)
-    requires whole { IsWhole picture.old }
-    requires alike { SameShapes picture.old source.now }
-    requires rows { (rows.0 < rows.1) × (16 * rows.1 ≤ picture.old.y.height) }
+    requires whole { IsWhole source.now }
+    requires wide { stripe.old.picture.now.y.width ≡ source.now.y.width }
+    requires rows { (rows.0 < rows.1) × (16 * rows.1 ≤ source.now.y.height) }
+    requires holds { HoldsRows stripe.old rows.0 rows.1 }
     requires head { IsIdrHead head.now }
-    requires first { head.now.first_mb ≡ rows.0 * (picture.old.y.width / 16) }
+    requires first { head.now.first_mb ≡ rows.0 * (source.now.y.width / 16) }
     requires row_plans { length plans.now ≡ rows.1 - rows.0 }
-    requires planned { ArePlanned (place_of picture.old rows.0 t8x8) (planes_of source.now) plans.now }
-    requires records { length records.old ≡ (rows.1 - rows.0) * (picture.old.y.width / 16) }
+    requires planned { ArePlanned (place_of source.now rows.0 t8x8) (planes_of source.now) plans.now }
+    requires records { length records.old ≡ (rows.1 - rows.0) * (source.now.y.width / 16) }
     requires empty { buf.text ≡ [] }
-    ensures payload { Leaves result.0 buf.room buf.made (layer_bits (format_of picture.old t8x8) (coded (place_of picture.old rows.0 t8x8) head.now (planes_of source.now) (planes_of picture.old) (length records.old))) result.1 }
-    ensures records { OnOk result.0 (records.new ≡ records_to (place_of picture.old rows.0 t8x8) head.now (planes_of source.now) (planes_of picture.old) (length records.old)) }
-    ensures planes { OnOk result.0 (planes_of picture.new ≡ slice_built (picture.old.y.width / 16) head.now.first_mb records.new (planes_of picture.old)) }
-    ensures shapes { SameShapes picture.old picture.new }
+    ensures same_reference { stripe.new.picture.ghost_name ≡ stripe.old.picture.ghost_name }
+    ensures place { stripe.new.first ≡ stripe.old.first }
+    ensures shapes { SameShapes stripe.old.picture.now stripe.new.picture.now }
+    ensures payload { Leaves result.0 buf.room buf.made (layer_bits (format_of source.now t8x8) (coded (place_of source.now rows.0 t8x8) head.now (planes_of source.now) (planes_in stripe.old) (length records.old))) result.1 }
+    ensures records { OnOk result.0 (records.new ≡ records_to (place_of source.now rows.0 t8x8) head.now (planes_of source.now) (planes_in stripe.old) (length records.old)) }
+    ensures planes { OnOk result.0 (planes_in stripe.new ≡ slice_built (source.now.y.width / 16) head.now.first_mb records.new (planes_in stripe.old)) }
 
     // The slice is one of the syntax, and its payload is read back as itself.
-    ensures slice { IsSlice (format_of picture.old t8x8) (coded (place_of picture.old rows.0 t8x8) head.now (planes_of source.now) (planes_of picture.old) (length records.old)) }
-    ensures read_back { read_layer (format_of picture.old t8x8) (layer_payload (format_of picture.old t8x8) (coded (place_of picture.old rows.0 t8x8) head.now (planes_of source.now) (planes_of picture.old) (length records.old))) ≡ Some (coded (place_of picture.old rows.0 t8x8) head.now (planes_of source.now) (planes_of picture.old) (length records.old)) }
+    ensures slice { IsSlice (format_of source.now t8x8) (coded (place_of source.now rows.0 t8x8) head.now (planes_of source.now) (planes_in stripe.old) (length records.old)) }
+    ensures read_back { read_layer (format_of source.now t8x8) (layer_payload (format_of source.now t8x8) (coded (place_of source.now rows.0 t8x8) head.now (planes_of source.now) (planes_in stripe.old) (length records.old))) ≡ Some (coded (place_of source.now rows.0 t8x8) head.now (planes_of source.now) (planes_in stripe.old) (length records.old)) }
 {
     samples_fit(source);
-    samples_fit(picture);
+    stripe_fits(stripe);
     let place = Place {
-        across: picture.y.width / 16,
+        across: source.y.width / 16,
         row: rows.0,
         t8x8,
     };
@@ -66,7 +70,7 @@ pub fn code_slice(
     code_macroblocks(
         &mut coder,
         &mut contexts,
-        picture,
+        stripe,
         source,
         plans,
         head,

@@ -45,7 +45,7 @@ returns-in-Ok-put_picture-clause-left g c =
     let is = unit_is unit c.bytes.result.now c.code.new.out.text (text_is c.clear.new.self c.code.new.out (bits_of_bytes unit) empty c.in-Ok.ensures.unit.1) (picture_bytes head settings number source) c.bytes.ensures.bytes in
     let kept = c.code.new.self.coder.picture in
     picture_encoded head settings number source (planes_of c.decoded.result.now) c.bytes.result.now (seen c.args.studio.now) (seen c.write_full.new.studio) (seen c.put_picture.new.studio) is
-    (ap planes_of c.decoded.ensures ∙ kept_is head settings number source kept c.requires.head c.code.ensures.sizes c.in-Ok.ensures.picture)
+    (ap planes_of c.decoded.ensures.value ∙ kept_is head settings number source kept c.requires.head c.code.ensures.sizes c.in-Ok.ensures.picture)
     (unit_short head settings number source c.clear.new.self empty (ap (λ (b : BitText). b.room) c.clear.ensures ∙ c.requires.room) c.in-Ok.ensures.unit.0)
     c.in-Ok-write_full.ensures.ok c.in-Ok-put_picture.ensures.ok
 
@@ -62,6 +62,6 @@ returns-in-Err-put_picture-clause-left g c =
     let kept = c.code.new.self.coder.picture in (
       unit_short head settings number source c.clear.new.self empty (ap (λ (b : BitText). b.room) c.clear.ensures ∙ c.requires.room) c.in-Ok.ensures.unit.0,
       shown_cut head settings number source (planes_of c.decoded.result.now) c.bytes.result.now (seen c.args.studio.now) (seen c.write_full.new.studio) (seen c.put_picture.new.studio) is
-          (ap planes_of c.decoded.ensures ∙ kept_is head settings number source kept c.requires.head c.code.ensures.sizes c.in-Ok.ensures.picture)
+          (ap planes_of c.decoded.ensures.value ∙ kept_is head settings number source kept c.requires.head c.code.ensures.sizes c.in-Ok.ensures.picture)
           c.in-Ok-write_full.ensures.ok c.in-Err-put_picture.ensures.err,
     )

@@ -4,7 +4,7 @@ use Rattle.picture_planes.specs.Pictures.{planes_of}
 use Rattle.encode_film.specs.Pictures.{cut_head, PicturesLeft}
 use Rattle.encode_film.proofs.Remaining.{of_both}
 use Rattle.encode_film.proofs.Going.{going_none, going_more, going_end, going_broken, going_unread, going_stopped, going_last, handed_on}
-use Rattle.encode_film.proofs.Sizing.{fits, sizes_still}
+use Rattle.encode_film.proofs.Sizing.{sizes_still}
 use Rattle.encode_film.proofs.pictures.encode_pictures.Goals as goal
 
 pub returns-in-Err : goal.returns-in-Err

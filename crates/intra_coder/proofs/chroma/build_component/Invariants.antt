@@ -1,11 +1,12 @@
 use Rattle.std.proofs.Common.{◌≡◌}
-use Rattle.picture_planes.specs.Samples.{SameShape, samples_of}
+use Rattle.picture_planes.specs.Samples.{SameShape}
 use Rattle.spec_built.specs.InOrder.{built_in_order}
 use Rattle.spec_built.specs.Chroma.{build_chroma}
+use Rattle.intra_coder.specs.Stripes.{samples_from}
 use Rattle.intra_coder.proofs.chroma.build_component.Given as goal
 
 abbrev pub invariant-loop-b : goal.invariant-loop-b
 invariant-loop-b l = record {
   shape : SameShape l.initial.plane l.plane;
-  samples : samples_of l.plane ≡ built_in_order (build_chroma l.initial.plane.width l.site l.prediction l.dcs) 15 l.ac l.b (samples_of l.initial.plane);
+  samples : samples_from l.top l.plane ≡ built_in_order (build_chroma l.initial.plane.width l.site l.prediction l.dcs) 15 l.ac l.b (samples_from l.top l.initial.plane);
 }

@@ -1,6 +1,7 @@
 use Rattle.std.proofs.Common.{true}
 use Rattle.picture_planes.specs.Samples.{samples_of}
 use Rattle.intra_coder.proofs.ChromaLaws.{prediction_chroma_is, chroma_dc_is, chroma_ac_is, chroma_is_built, made_dc}
+use Rattle.intra_coder.specs.Stripes.{samples_from}
 use Rattle.intra_coder.proofs.chroma.code_chroma.Goals as goal
 
 pub build_component-requires-clause-dcs : goal.build_component-requires-clause-dcs
@@ -10,20 +11,20 @@ build_component-requires-clause-dcs c =
 
 pub returns-clause-dc : goal.returns-clause-dc
 returns-clause-dc c =
-    chroma_dc_is c.args.plane.now.width c.args.site.now c.args.mode (samples_of c.args.source.now) (samples_of c.args.plane.now) c.pred_chroma-prediction.result c.args.source.now.width c.chroma_qp-qp.result
+    chroma_dc_is c.args.plane.now.width c.args.site.now c.args.mode (samples_of c.args.source.now) (samples_from c.args.top c.args.plane.now) c.pred_chroma-prediction.result c.args.source.now.width c.chroma_qp-qp.result
     c.spectra_chroma-spectra.result.firsts c.chroma_dc-means.result _
-    (prediction_chroma_is c.args.plane.now.width c.args.site.now c.args.mode (samples_of c.args.plane.now) c.near_chroma-near.result _ c.near_chroma-near.ensures c.pred_chroma-prediction.ensures)
-    c.requires.alike.0 c.chroma_qp-qp.ensures.value c.spectra_chroma-spectra.ensures.firsts c.chroma_dc-means.ensures.value c.quantise_chroma_dc-quantised.ensures.value
+    (prediction_chroma_is c.args.plane.now.width c.args.site.now c.args.mode (samples_from c.args.top c.args.plane.now) c.near_chroma-near.result _ c.near_chroma-near.ensures c.pred_chroma-prediction.ensures)
+    c.requires.source.wide c.chroma_qp-qp.ensures.value c.spectra_chroma-spectra.ensures.firsts c.chroma_dc-means.ensures.value c.quantise_chroma_dc-quantised.ensures.value
 
 pub returns-clause-ac : goal.returns-clause-ac
 returns-clause-ac c =
-    chroma_ac_is c.args.plane.now.width c.args.site.now c.args.mode (samples_of c.args.source.now) (samples_of c.args.plane.now) c.pred_chroma-prediction.result c.args.source.now.width c.chroma_qp-qp.result _
-    (prediction_chroma_is c.args.plane.now.width c.args.site.now c.args.mode (samples_of c.args.plane.now) c.near_chroma-near.result _ c.near_chroma-near.ensures c.pred_chroma-prediction.ensures)
-    c.requires.alike.0 c.chroma_qp-qp.ensures.value c.spectra_chroma-spectra.ensures.ac
+    chroma_ac_is c.args.plane.now.width c.args.site.now c.args.mode (samples_of c.args.source.now) (samples_from c.args.top c.args.plane.now) c.pred_chroma-prediction.result c.args.source.now.width c.chroma_qp-qp.result _
+    (prediction_chroma_is c.args.plane.now.width c.args.site.now c.args.mode (samples_from c.args.top c.args.plane.now) c.near_chroma-near.result _ c.near_chroma-near.ensures c.pred_chroma-prediction.ensures)
+    c.requires.source.wide c.chroma_qp-qp.ensures.value c.spectra_chroma-spectra.ensures.ac
 
 pub returns-clause-samples : goal.returns-clause-samples
 returns-clause-samples c =
-    chroma_is_built c.args.plane.now.width c.args.site.now c.args.mode c.chroma_qp-qp.result (samples_of c.args.plane.now) _ c.pred_chroma-prediction.result
+    chroma_is_built c.args.plane.now.width c.args.site.now c.args.mode c.chroma_qp-qp.result (samples_from c.args.top c.args.plane.now) _ c.pred_chroma-prediction.result
     c.quantise_chroma_dc-quantised.result.levels c.rescale_chroma_dc-dcs.result c.spectra_chroma-spectra.result.ac
-    (prediction_chroma_is c.args.plane.now.width c.args.site.now c.args.mode (samples_of c.args.plane.now) c.near_chroma-near.result _ c.near_chroma-near.ensures c.pred_chroma-prediction.ensures)
+    (prediction_chroma_is c.args.plane.now.width c.args.site.now c.args.mode (samples_from c.args.top c.args.plane.now) c.near_chroma-near.result _ c.near_chroma-near.ensures c.pred_chroma-prediction.ensures)
     c.chroma_qp-qp.ensures.value c.rescale_chroma_dc-dcs.ensures.value c.build_component.ensures.samples

@@ -1,21 +1,21 @@
 use Rattle.std.proofs.Common.{ℕ, refl, ◌∙◌, ap}
-use Rattle.picture_planes.specs.Samples.{samples_of}
 use Rattle.spec_built.specs.InOrder.{levels_of_block}
 use Rattle.spec_built.specs.Luma.{build16}
 use Rattle.intra_coder.proofs.InOrderLaws.{built_none, built_next}
+use Rattle.intra_coder.specs.Stripes.{samples_from}
 use Rattle.intra_coder.proofs.luma16.build_luma16.Goals as goal
 
 pub loop-b-init : goal.loop-b-init
 loop-b-init c = record {
   shape = (refl, refl, refl);
-  samples = built_none (build16 c.args.plane.now.width c.args.site.now c.args.prediction.now c.args.dcs.now) 16 c.args.levels.now (samples_of c.args.plane.now);
+  samples = built_none (build16 c.args.plane.now.width c.args.site.now c.args.prediction.now c.args.dcs.now) 16 c.args.levels.now (samples_from c.args.top c.args.plane.now);
 }
 
 pub loop-b-preserved : goal.loop-b-preserved
 loop-b-preserved c = record {
   shape = (c.build_block16.ensures.shape.0 ∙ c.loop-b.invariant.shape.0, c.build_block16.ensures.shape.1 ∙ c.loop-b.invariant.shape.1, c.build_block16.ensures.shape.2 ∙ c.loop-b.invariant.shape.2);
   samples =
-      built_next (build16 c.args.plane.now.width c.args.site.now c.args.prediction.now c.args.dcs.now) 16 c.args.levels.now c.loop-b.b (samples_of c.args.plane.now) (samples_of c.loop-b.plane) _
+      built_next (build16 c.args.plane.now.width c.args.site.now c.args.prediction.now c.args.dcs.now) 16 c.args.levels.now c.loop-b.b (samples_from c.args.top c.args.plane.now) (samples_from c.args.top c.loop-b.plane) _
       c.loop-b.invariant.samples
-      (c.build_block16.ensures.samples ∙ ap (λ (v : ℕ). build16 v c.args.site.now c.args.prediction.now c.args.dcs.now c.loop-b.b (levels_of_block 16 c.loop-b.b c.args.levels.now) (samples_of c.loop-b.plane)) c.loop-b.invariant.shape.0);
+      (c.build_block16.ensures.samples ∙ ap (λ (v : ℕ). build16 v c.args.site.now c.args.prediction.now c.args.dcs.now c.loop-b.b (levels_of_block 16 c.loop-b.b c.args.levels.now) (samples_from c.args.top c.loop-b.plane)) c.loop-b.invariant.shape.0);
 }

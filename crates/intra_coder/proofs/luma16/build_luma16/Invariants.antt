@@ -1,11 +1,12 @@
 use Rattle.std.proofs.Common.{◌≡◌}
-use Rattle.picture_planes.specs.Samples.{SameShape, samples_of}
+use Rattle.picture_planes.specs.Samples.{SameShape}
 use Rattle.spec_built.specs.InOrder.{built_in_order}
 use Rattle.spec_built.specs.Luma.{build16}
+use Rattle.intra_coder.specs.Stripes.{samples_from}
 use Rattle.intra_coder.proofs.luma16.build_luma16.Given as goal
 
 abbrev pub invariant-loop-b : goal.invariant-loop-b
 invariant-loop-b l = record {
   shape : SameShape l.initial.plane l.plane;
-  samples : samples_of l.plane ≡ built_in_order (build16 l.initial.plane.width l.site l.prediction l.dcs) 16 l.levels l.b (samples_of l.initial.plane);
+  samples : samples_from l.top l.plane ≡ built_in_order (build16 l.initial.plane.width l.site l.prediction l.dcs) 16 l.levels l.b (samples_from l.top l.initial.plane);
 }

@@ -2,12 +2,13 @@ use Rattle.std.proofs.Common.{◌≡◌, ◌*◌, length, take}
 use Rattle.picture_planes.specs.Samples.{SameShape, samples_of}
 use Rattle.spec_built.specs.InOrder.{coded_in_order, levels_in_order}
 use Rattle.spec_built.specs.Luma.{build4, choose4}
+use Rattle.intra_coder.specs.Stripes.{samples_from}
 use Rattle.intra_coder.proofs.luma4.code_luma4.Given as goal
 
 abbrev pub invariant-loop-b : goal.invariant-loop-b
 invariant-loop-b l = record {
   long : length l.levels ≡ 256;
   shape : SameShape l.initial.plane l.plane;
-  levels : take (l.b * 16) l.levels ≡ levels_in_order (build4 l.initial.plane.width l.site l.modes) (choose4 l.initial.plane.width l.site l.modes (samples_of l.source)) l.b (samples_of l.initial.plane);
-  samples : samples_of l.plane ≡ coded_in_order (build4 l.initial.plane.width l.site l.modes) (choose4 l.initial.plane.width l.site l.modes (samples_of l.source)) l.b (samples_of l.initial.plane);
+  levels : take (l.b * 16) l.levels ≡ levels_in_order (build4 l.initial.plane.width l.site l.modes) (choose4 l.initial.plane.width l.site l.modes (samples_of l.source)) l.b (samples_from l.top l.initial.plane);
+  samples : samples_from l.top l.plane ≡ coded_in_order (build4 l.initial.plane.width l.site l.modes) (choose4 l.initial.plane.width l.site l.modes (samples_of l.source)) l.b (samples_from l.top l.initial.plane);
 }

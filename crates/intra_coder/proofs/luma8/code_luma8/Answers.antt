@@ -5,6 +5,7 @@ use Rattle.spec_built.specs.InOrder.{coded_in_order, levels_in_order}
 use Rattle.spec_built.specs.Luma.{build8, choose8}
 use Rattle.intra_coder.proofs.InOrderLaws.{piece_long, no_levels, no_samples, next_piece, next_samples}
 use Rattle.intra_coder.proofs.LumaLaws.{luma8_levels_are, luma8_is_built}
+use Rattle.intra_coder.specs.Stripes.{samples_from}
 use Rattle.intra_coder.proofs.luma8.code_luma8.Goals as goal
 
 pub loop-b-init : goal.loop-b-init
@@ -15,8 +16,8 @@ loop-b-init c =
     record {
       long = refl;
       shape = (refl, refl, refl);
-      levels = no_levels build choose (samples_of c.args.plane.now) [];
-      samples = no_samples build choose (samples_of c.args.plane.now);
+      levels = no_levels build choose (samples_from c.args.top c.args.plane.now) [];
+      samples = no_samples build choose (samples_from c.args.top c.args.plane.now);
     }
 
 pub loop-b-preserved : goal.loop-b-preserved
@@ -30,16 +31,16 @@ loop-b-preserved c =
     let same = c.loop-b.invariant.shape.0 in
     let k : b * 64 + 64 - b * 64 ≡ 64 = omega arith in
     let room : b * 64 + 64 ≤ length c.loop-b.levels = omega (arith, c.loop-b.invariant.long, c.loop-b-test.true) in
-    let chosen = c.code_block8-block.ensures.levels ∙ ap (λ (v : ℕ). choose8 v site modes source b (samples_of c.loop-b.plane)) same in
-    let written = c.code_block8-block.ensures.samples ∙ ap (λ (v : ℕ). build8 v site modes b block (samples_of c.loop-b.plane)) same in
+    let chosen = c.code_block8-block.ensures.levels ∙ ap (λ (v : ℕ). choose8 v site modes source b (samples_from c.args.top c.loop-b.plane)) same in
+    let written = c.code_block8-block.ensures.samples ∙ ap (λ (v : ℕ). build8 v site modes b block (samples_from c.args.top c.loop-b.plane)) same in
     let long : length block ≡ 64 = omega arith in
     let piece : length c.copy_from_slice.new.self ≡ 64 = ap (λ (l : List ℤ). length l) c.copy_from_slice.ensures.after ∙ long in
     record {
       long = piece_long c.loop-b.levels c.copy_from_slice.new.self (b * 64) 64 (b * 64 + 64 - b * 64) room piece k ∙ c.loop-b.invariant.long;
       shape = (c.code_block8-block.ensures.shape.0 ∙ c.loop-b.invariant.shape.0, c.code_block8-block.ensures.shape.1 ∙ c.loop-b.invariant.shape.1, c.code_block8-block.ensures.shape.2 ∙ c.loop-b.invariant.shape.2);
-      levels = next_piece (build8 wide site modes) (choose8 wide site modes source) (samples_of c.args.plane.now) b 64 (b * 64 + 64 - b * 64) c.loop-b.levels c.copy_from_slice.new.self block (samples_of c.loop-b.plane)
+      levels = next_piece (build8 wide site modes) (choose8 wide site modes source) (samples_from c.args.top c.args.plane.now) b 64 (b * 64 + 64 - b * 64) c.loop-b.levels c.copy_from_slice.new.self block (samples_from c.args.top c.loop-b.plane)
           room long k c.copy_from_slice.ensures.after c.loop-b.invariant.samples c.loop-b.invariant.levels chosen;
-      samples = next_samples (build8 wide site modes) (choose8 wide site modes source) (samples_of c.args.plane.now) b block (samples_of c.loop-b.plane) _ c.loop-b.invariant.samples chosen written;
+      samples = next_samples (build8 wide site modes) (choose8 wide site modes source) (samples_from c.args.top c.args.plane.now) b block (samples_from c.args.top c.loop-b.plane) _ c.loop-b.invariant.samples chosen written;
     }
 
 all_levels : (xs ys : List ℤ) (b : ℕ) → length xs ≡ 256 → b ≡ 4 → take (b * 64) xs ≡ ys → xs ≡ ys
@@ -51,8 +52,8 @@ returns-clause-levels c =
     let build = build8 wide c.args.site.now c.args.modes.now in
     let choose = choose8 wide c.args.site.now c.args.modes.now (samples_of c.args.source.now) in
     let e : c.loop-b.b ≡ 4 = omega arith in
-    luma8_levels_are wide c.args.site.now c.args.modes.now (samples_of c.args.source.now) (samples_of c.args.plane.now) c.loop-b.levels
-    (all_levels c.loop-b.levels _ c.loop-b.b c.loop-b.invariant.long e c.loop-b.invariant.levels ∙ ap (λ (n : ℕ). levels_in_order build choose n (samples_of c.args.plane.now)) e)
+    luma8_levels_are wide c.args.site.now c.args.modes.now (samples_of c.args.source.now) (samples_from c.args.top c.args.plane.now) c.loop-b.levels
+    (all_levels c.loop-b.levels _ c.loop-b.b c.loop-b.invariant.long e c.loop-b.invariant.levels ∙ ap (λ (n : ℕ). levels_in_order build choose n (samples_from c.args.top c.args.plane.now)) e)
 
 pub returns-clause-samples : goal.returns-clause-samples
 returns-clause-samples c =
@@ -60,6 +61,6 @@ returns-clause-samples c =
     let build = build8 wide c.args.site.now c.args.modes.now in
     let choose = choose8 wide c.args.site.now c.args.modes.now (samples_of c.args.source.now) in
     let e : c.loop-b.b ≡ 4 = omega arith in
-    luma8_is_built wide c.args.site.now c.args.modes.now (samples_of c.args.source.now) (samples_of c.args.plane.now) (samples_of c.loop-b.plane) c.loop-b.levels
-    (all_levels c.loop-b.levels _ c.loop-b.b c.loop-b.invariant.long e c.loop-b.invariant.levels ∙ ap (λ (n : ℕ). levels_in_order build choose n (samples_of c.args.plane.now)) e)
-    (c.loop-b.invariant.samples ∙ ap (λ (n : ℕ). coded_in_order build choose n (samples_of c.args.plane.now)) e)
+    luma8_is_built wide c.args.site.now c.args.modes.now (samples_of c.args.source.now) (samples_from c.args.top c.args.plane.now) (samples_from c.args.top c.loop-b.plane) c.loop-b.levels
+    (all_levels c.loop-b.levels _ c.loop-b.b c.loop-b.invariant.long e c.loop-b.invariant.levels ∙ ap (λ (n : ℕ). levels_in_order build choose n (samples_from c.args.top c.args.plane.now)) e)
+    (c.loop-b.invariant.samples ∙ ap (λ (n : ℕ). coded_in_order build choose n (samples_from c.args.top c.args.plane.now)) e)

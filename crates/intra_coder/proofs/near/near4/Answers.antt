@@ -1,9 +1,9 @@
-use Rattle.picture_planes.specs.Samples.{samples_of}
-use Rattle.spec_intra.specs.Near.{plane_sample}
-use Rattle.intra_coder.proofs.Gathered.{neighbours4_are}
+use Rattle.std.proofs.Common.{◌∙◌}
+use Rattle.intra_coder.proofs.StripeLaws.{near4_from, readable_in}
 use Rattle.intra_coder.proofs.near.near4.Goals as goal
 
+pub near4-requires : goal.near4-requires
+near4-requires c = readable_in c.args.plane.now c.args.top 4 c.args.avail.now c.args.x c.args.y c.requires
+
 pub returns : goal.returns
-returns c =
-    neighbours4_are (plane_sample c.args.plane.now.width (samples_of c.args.plane.now)) c.args.avail.now c.args.x c.args.y c.above-first.result c.above-second.result c.beside4.result c.left.result c.corner.result
-    c.above-first.ensures c.above-second.ensures c.beside4.ensures c.left.ensures c.corner.ensures
+returns c = c.near4.ensures ∙ near4_from c.args.plane.now c.args.top c.args.avail.now c.args.x c.args.y c.requires

@@ -1,9 +1,9 @@
-use Rattle.picture_planes.specs.Samples.{samples_of}
-use Rattle.spec_intra.specs.Near.{plane_sample}
-use Rattle.intra_coder.proofs.Gathered.{neighbours_chroma_are}
+use Rattle.std.proofs.Common.{◌∙◌}
+use Rattle.intra_coder.proofs.StripeLaws.{near_chroma_from, reachable_in}
 use Rattle.intra_coder.proofs.near.near_chroma.Goals as goal
 
+pub near_chroma-requires : goal.near_chroma-requires
+near_chroma-requires c = reachable_in c.args.plane.now c.args.top 8 c.args.avail.now c.args.x c.args.y c.requires
+
 pub returns : goal.returns
-returns c =
-    neighbours_chroma_are (plane_sample c.args.plane.now.width (samples_of c.args.plane.now)) c.args.avail.now c.args.x c.args.y c.above.result c.left.result c.corner.result
-    c.above.ensures c.left.ensures c.corner.ensures
+returns c = c.near_chroma.ensures ∙ near_chroma_from c.args.plane.now c.args.top c.args.avail.now c.args.x c.args.y c.requires

@@ -2,4 +2,4 @@ use Rattle.intra_coder.proofs.Standing.{stands_in}
 use Rattle.intra_coder.proofs.site.sites_stand.Goals as goal
 
 pub returns : goal.returns
-returns c width rows first address qp plane wide inside w h = stands_in width rows first address qp plane wide inside w h
+returns c width rows row top address qp plane wide begins behind inside w h = stands_in width rows row top address qp plane wide begins behind inside w h

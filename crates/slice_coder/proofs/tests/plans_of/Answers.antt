@@ -1,4 +1,4 @@
-use Rattle.std.proofs.Common.{◌≡◌, ◌+◌, ◌/◌, ◌++◌, ℕ, zero, suc, List, [], ◌∷◌, length, replicate, vec_len, refl, sym, ap, subst, ◌∙◌, arith}
+use Rattle.std.proofs.Common.{◌≡◌, ◌+◌, ◌/◌, ◌++◌, ℕ, zero, suc, List, [], ◌∷◌, length, replicate, vec_len, sym, ap, subst, ◌∙◌, arith}
 use Rattle.std.specs.List.{All}
 use Rattle.std.proofs.lemmas.List.FromFn.{length-map-range_with_len}
 use Rattle.enc_tables.specs.declared.records.MbPlan.{MbPlan}
@@ -7,10 +7,9 @@ use Rattle.enc_tables.specs.Choice.{SmallCosts}
 use Rattle.enc_tables.specs.Plans.{blank_plan}
 use Rattle.spec_film.specs.Films.{Planes}
 use Rattle.spec_choice.specs.IntraPlans.{intra_plan, intra_plans}
-use Rattle.spec_reading.specs.HeadReaders.{idr_head}
 use Rattle.slice_coder.specs.declared.place.Place.{Place}
 use Rattle.slice_coder.specs.Plans.{IsPlanned, ArePlanned}
-use Rattle.slice_coder.proofs.tests.codes_a_grey_slice.Goals as goal
+use Rattle.slice_coder.proofs.tests.plans_of.Goals as goal
 
 is_planned : (place : Place) (source : Planes) (old p : RowPlan) → place.across ≡ 1 → old.mbs.items ≡ replicate 1 blank_plan → p.mbs.items ≡ intra_plans (vec_len old.mbs) place.row place.t8x8 source place.row → All SmallCosts p.mbs.items
     → IsPlanned place source place.row p
@@ -33,12 +32,8 @@ are_planned : (place : Place) (source : Planes) (old p : RowPlan) (plans : List 
 are_planned place source old p plans e wide blank is small =
     subst (λ (ps : List RowPlan). ArePlanned place source ps) (sym e) (one_planned place source p (is_planned place source old p wide blank is small))
 
-pub code_slice-done-requires-clause-head : goal.code_slice-done-requires-clause-head
-unfolding idr_head
-code_slice-done-requires-clause-head g c = record { same = refl; first_mb_fits = omega arith; frame_num_fits = omega arith; idr_id_fits = omega arith; poc_fits = omega arith; qp_fits = omega arith }
-
-pub code_slice-done-requires-clause-planned : goal.code_slice-done-requires-clause-planned
-code_slice-done-requires-clause-planned g c =
-    are_planned _ _ c.in_ok-plan.plan c.plan_row.new.out c.as_slice.result.now
-    (c.as_slice.ensures.value ∙ c.in_ok-push.ensures.items ∙ ap (λ (xs : List RowPlan). xs ++ c.plan_row.new.out ∷ []) c.new-plans.ensures.items) (ap (λ (n : ℕ). n / 16) c.in_ok-picture.ensures.luma.0)
+pub returns-clause-planned : goal.returns-clause-planned
+returns-clause-planned c =
+    are_planned _ _ c.in_ok-plan.plan c.plan_row.new.out _
+    (c.in_ok-push.ensures.items ∙ ap (λ (xs : List RowPlan). xs ++ c.plan_row.new.out ∷ []) c.new-plans.ensures.items) (ap (λ (n : ℕ). n / 16) c.requires.width)
     c.in_ok-plan.ensures.blank c.plan_row.ensures.plans c.plan_row.ensures.small

@@ -1,7 +1,7 @@
 use Rattle.std.proofs.Common.{◌≡◌}
 use Rattle.picture_planes.specs.Samples.{SameShape, samples_of}
 use Rattle.spec_built.specs.Parts.{with_rows}
-use Rattle.intra_coder.proofs.parts.write_block.Given as goal
+use Rattle.intra_coder.proofs.parts.write_rows.Given as goal
 
 abbrev pub invariant-loop-j : goal.invariant-loop-j
 invariant-loop-j l = record {
