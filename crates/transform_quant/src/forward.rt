@@ -27,7 +27,7 @@ fn forward4_line(x0: Coef, x1: Coef, x2: Coef, x3: Coef) -> [Coef; 4]
     ]
 }
 
-#[inline(never)]
+#[inline(always)]
 fn forward4_pass(x: &[Coef; 16]) -> [Coef; 16]
     requires { AllWithin 16 100000 x.now }
     ensures { Turned4 (row4_by forward4_line x.now) result }
