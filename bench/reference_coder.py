@@ -8,7 +8,8 @@ The reference is a stripped program that can't be asked to code bins alone, so i
 - perf samples runs of the program, and the time of the samples in these two stretches is the coder's.
 
 What the coder asks other functions for (more memory for its bytes, say) isn't counted, nor is the making of bins: both favour the
-reference.
+reference. It runs among the other work of an encoder, though, with colder caches and branch predictions than a coder that runs alone,
+which doesn't favour it; how much that is isn't known.
 """
 import re
 import shutil
