@@ -5,3 +5,4 @@ pub mod Levels
 pub mod Rows
 pub mod Inter
 pub mod Blocks
+pub mod Ends

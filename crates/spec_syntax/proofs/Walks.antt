@@ -1,4 +1,5 @@
 use Rattle.std.proofs.Common.{◌≡◌, ℕ, Bool, List, [], ◌∷◌, ◌++◌, Some, refl, sym, ap, subst, ◌∙◌}
+use Rattle.std.proofs.lemmas.List.{append-nil}
 use Rattle.spec_syntax.specs.declared.Bin.{Bin}
 use Rattle.spec_syntax.specs.Syntax.{Syntax, done, nothing, ask, take, ◌>>=◌, flag, flag_string, Walks, Reads, reading, contexts, bits, ReadsAhead, StandsAlone}
 
@@ -9,6 +10,10 @@ walks_then nothing f xs ys a b h k = absurd h
 walks_then (take next) f xs ys a b h k = absurd h
 walks_then (ask c next) f [] ys a b h k = absurd h
 walks_then (ask c next) f (x ∷ xs) ys a b h k = (h.0, walks_then (next x.bit) f xs ys a b h.1 k)
+
+-- the second reader asks for nothing
+pub walks_last : {A B : Type 0} (s : Syntax A) (f : A → Syntax B) (xs : List Bin) (a : A) (b : B) → Walks s xs a → Walks (f a) [] b → Walks (s >>= f) xs b
+walks_last s f xs a b h k = subst (λ (ys : List Bin). Walks (s >>= f) ys b) (append-nil xs) (walks_then s f xs [] a b h k)
 
 -- one reader after another reads one string after another
 pub reads_then : {A B : Type 0} {s : Syntax A} (f : A → Syntax B) {xs ys : List Bin} {a : A} {b : B} → Reads s xs a → Reads (f a) ys b → Reads (s >>= f) (xs ++ ys) b

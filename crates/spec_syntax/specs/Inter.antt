@@ -256,7 +256,8 @@ ref_index inc = one_of 4 (ref_at inc) [] (with_bits unary (numbers 4 0))
 unfoldable pub ref_index_string : ℕ → ℕ → List Bin
 ref_index_string inc index = string (ref_at inc) [] (unary index)
 
--- ---- mvd: its size by at most 9 ones, and what is above 9 by Exp-Golomb of order 3; then its sign, 1 for negative (clause 9.3.2.3)
+-- ---- mvd: its size by at most 9 ones, and what is above 9 by Exp-Golomb of order 3; then its sign, 1 for negative (clause 9.3.2.3).
+-- It is at most 2^15 in size: fewer than 12 ones come in the Exp-Golomb part, and 12 are nothing.
 
 abbrev pub mvd_from : Bool → ℕ
 mvd_from vertical = cond vertical 47 40

@@ -2,7 +2,7 @@
 use Rattle.std.specs.Prelude.{ℕ, zero, suc, ◌+◌, ◌-◌, ◌==◌, true, false, cond, List, [], ◌∷◌, ◌++◌, get_or, min, nat_lt}
 use Rattle.spec_syntax.specs.declared.Bin.{Bin}
 use Rattle.spec_syntax.specs.declared.TheConstants.{SIGNIFICANT8, LAST8}
-use Rattle.spec_syntax.specs.Syntax.{Syntax, done, ◌>>=◌, bin, at}
+use Rattle.spec_syntax.specs.Syntax.{Syntax, done, nothing, ◌>>=◌, bin, at}
 use Rattle.spec_syntax.specs.Numbers.{ones, ones_string, golomb, golomb_string}
 
 -- coded_block_flag, which 8x8 blocks have not
@@ -33,7 +33,8 @@ first_at category g e = levels_from category + cond (g == 0) (min 4 (1 + e)) 0
 unfoldable pub others_at : ℕ → ℕ → ℕ
 others_at category g = levels_from category + 5 + min g (cond (category == 3) 3 4)
 
--- a prefix of at most 14 ones, and what is above 14 by Exp-Golomb of order 0
+-- A prefix of at most 14 ones, and what is above 14 by Exp-Golomb of order 0. It is at most 8190, since a level is at most 8191 in
+-- size: a greater one is nothing.
 unfoldable pub minus1 : ℕ → ℕ → Syntax ℕ
 minus1 first others = do
   b ← bin first
@@ -41,7 +42,7 @@ minus1 first others = do
     | false ↦ done 0
     | true ↦ do
       k ← ones others 13
-      (cond (k == 13) (golomb 13 0 >>= λ v. done (14 + v)) (done (suc k)))
+      (cond (k == 13) (golomb 13 0 >>= λ v. cond (nat_lt v 8177) (done (14 + v)) nothing) (done (suc k)))
   ]
 
 unfoldable pub minus1_string : ℕ → ℕ → ℕ → List Bin

@@ -79,3 +79,12 @@ pub fn blocks_are_read_back()
     ensures coded { (category : ℕ) (inc : ℕ) (n : ℕ) (levels : List ℤ) → length levels ≡ n + 1 → AllByRecursion IsLevel levels → Reads (block category inc n) (block_string category inc n levels) levels }
     ensures some { (category : ℕ) (n : ℕ) (levels : List ℤ) → length levels ≡ n + 1 → IsFalse (none (map nonzero levels)) → AllByRecursion IsLevel levels → Reads (some_levels category n) (some_levels_string category n levels) levels }
 {}
+
+/// Whatever bins are read, a level is at most 8191 in size, and a vector difference at most 2^15: of a greater one the readers give
+/// nothing.
+pub fn readings_are_in_range()
+    ensures level { (first : ℕ) (others : ℕ) (bins : List Bin) (m : ℕ) → Reads (minus1 first others) bins m → m ≤ 8190 }
+    ensures coded { (category : ℕ) (inc : ℕ) (n : ℕ) (bins : List Bin) (levels : List ℤ) → Reads (block category inc n) bins levels → AllByRecursion IsLevel levels }
+    ensures some { (category : ℕ) (n : ℕ) (bins : List Bin) (levels : List ℤ) → Reads (some_levels category n) bins levels → AllByRecursion IsLevel levels }
+    ensures mvd { (vertical : Bool) (inc : ℕ) (bins : List Bin) (d : ℤ) → Reads (mvd vertical inc) bins d → IsDifference d }
+{}
