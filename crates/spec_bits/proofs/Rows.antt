@@ -5,11 +5,12 @@ use Rattle.std.specs.Int.Count.{count_leading_zeros}
 use Rattle.spec_bits.specs.declared.heads.SeqHead.{SeqHead}
 use Rattle.spec_bits.specs.declared.heads.SliceHead.{SliceHead}
 use Rattle.spec_bits.specs.declared.heads.Field.TheVariants.{U, Ue}
-use Rattle.enc_tables.specs.declared.records.SliceKind.TheVariants.{I, P}
+use Rattle.enc_tables.specs.declared.records.SliceKind.TheVariants.{I, P, B}
 use Rattle.spec_bits.specs.Bits.{digits, bytes_of_bits}
 use Rattle.spec_bits.specs.Golomb.{ue_bits, se_bits, trail_bits}
 use Rattle.spec_bits.specs.Fields.{fields_bits}
-use Rattle.spec_bits.specs.Heads.{cropping_fields, buffer_fields, usability_fields, sequence_fields, format_fields, place_fields, picture_fields, list_fields, marking_fields, init_fields, slice_fields, slice_head_bits, sequence_payload, picture_payload}
+use Rattle.spec_bits.specs.Heads.{cropping_fields, buffer_fields, usability_fields, sequence_fields, format_fields, place_fields, picture_fields, list_fields, marking_fields, init_fields, slice_fields, slice_head_bits, sequence_payload, picture_payload, payload_of}
+use Rattle.spec_bits.specs.Messages.{message_fields}
 use Rattle.spec_bits.specs.Units.{escape, unit_bytes, filler_unit, parted, unescape, units_of}
 
 stored_head : SeqHead
@@ -56,6 +57,23 @@ next_slice = record { first_mb = 0; kind = P; idr = false; frame_num = 1; idr_id
 next_slice_begins : bytes_of_bits (slice_head_bits next_slice) ≡ 0x9A ∷ 0 ∷ 2 ∷ 0 ∷ 5 ∷ 0x9F ∷ []
 unfolding next_slice slice_head_bits slice_fields place_fields list_fields marking_fields init_fields fields_bits digits ue_bits se_bits bytes_of_bits count_leading_zeros
 next_slice_begins = refl
+
+-- the first B slice of a group, between two references
+between_slice : SliceHead
+between_slice = record { first_mb = 0; kind = B; idr = false; frame_num = 2; idr_id = 0; poc = 2; refs0 = 1; refs1 = 1; moved = None; qp = 26; cabac = true }
+
+between_slice_begins : bytes_of_bits (slice_head_bits between_slice) ≡ 0x9E ∷ 0 ∷ 4 ∷ 0 ∷ 5 ∷ 0xE7 ∷ []
+unfolding between_slice slice_head_bits slice_fields place_fields list_fields marking_fields init_fields fields_bits digits ue_bits se_bits bytes_of_bits count_leading_zeros
+between_slice_begins = refl
+
+-- the messages of an IDR picture that is shown one place later than it is coded, and of the P picture behind it
+first_messages : unit_bytes false 0 6 (payload_of (message_fields (Some 45000) 0 2)) ≡ 0 ∷ 0 ∷ 1 ∷ 6 ∷ 0 ∷ 9 ∷ 0x80 ∷ 0 ∷ 0x57 ∷ 0xE4 ∷ 0 ∷ 0 ∷ 3 ∷ 0 ∷ 0 ∷ 0x40 ∷ 1 ∷ 6 ∷ 0 ∷ 0 ∷ 3 ∷ 0 ∷ 0 ∷ 3 ∷ 0 ∷ 2 ∷ 0x80 ∷ []
+unfolding message_fields unit_bytes escape fields_bits digits ue_bits trail_bits bytes_of_bits count_leading_zeros
+first_messages = refl
+
+next_messages : unit_bytes false 0 6 (payload_of (message_fields None 2 6)) ≡ 0 ∷ 0 ∷ 1 ∷ 6 ∷ 1 ∷ 6 ∷ 0 ∷ 0 ∷ 3 ∷ 2 ∷ 0 ∷ 0 ∷ 6 ∷ 0x80 ∷ []
+unfolding message_fields unit_bytes escape fields_bits digits trail_bits bytes_of_bits
+next_messages = refl
 
 -- 18 samples are padded by 14
 padded_sides : cropping_fields 18 18 ≡ U 1 1 ∷ Ue 0 ∷ Ue 7 ∷ Ue 0 ∷ Ue 7 ∷ []

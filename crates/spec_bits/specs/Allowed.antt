@@ -1,5 +1,5 @@
 -- Which values the fields of heads may have.
-use Rattle.std.specs.Prelude.{ℕ, ◌-◌, ◌%◌, ◌^◌, ◌<◌, ◌≤◌, ◌≡◌, true, List, [], ◌∷◌, negsuc, ◌<ℤ◌, IfSome}
+use Rattle.std.specs.Prelude.{ℕ, ◌-◌, ◌%◌, ◌^◌, ◌<◌, ◌≤◌, ◌≡◌, true, List, [], ◌∷◌, negsuc, ◌<ℤ◌, IfSome, false, None}
 use Rattle.spec_bits.specs.declared.heads.Field.{Field}
 use Rattle.spec_bits.specs.declared.heads.Field.TheVariants.{U, Ue, Se}
 use Rattle.spec_bits.specs.declared.heads.SeqHead.{SeqHead}
@@ -18,11 +18,19 @@ abbrev pub FieldsFit : List Field → Type 0
 FieldsFit [] = Unit {0}
 FieldsFit (f ∷ fields) = FieldFits f × FieldsFit fields
 
--- a rate that the clock's 32 bits hold, and a buffer in the units of the syntax (clauses E.2.1 and E.2.2)
+-- A clock that neither stands still nor passes its 32 bits (num_units_in_tick and time_scale, clause E.2.1), and a rate and a buffer in whole
+-- units of the syntax, 64 bits a second and 16 bits (clause E.2.2)
 pub record IsTiming (t : Timing) : Type 0 where
-  pub clock : t.num < 2 ^ 31
-  pub rate : 64 ≤ t.rate
-  pub cpb : 16 ≤ t.cpb
+  pub num_from : 1 ≤ t.num
+  pub num_to : t.num < 2 ^ 31
+  pub den_from : 1 ≤ t.den
+  pub den_to : t.den < 2 ^ 32
+  pub rate_from : 64 ≤ t.rate
+  pub rate_to : t.rate < 2 ^ 32
+  pub rate_whole : t.rate % 64 ≡ 0
+  pub cpb_from : 16 ≤ t.cpb
+  pub cpb_to : t.cpb < 2 ^ 32
+  pub cpb_whole : t.cpb % 16 ≡ 0
 
 -- even sides from 16 on, of 4096 by 2304 samples at most, and one to four reference pictures
 pub record IsSeqHead (h : SeqHead) : Type 0 where
@@ -41,6 +49,21 @@ abbrev pub HasLists : SliceKind → ℕ → ℕ → Type 0
 HasLists I refs0 refs1 = Unit {0}
 HasLists P refs0 refs1 = 1 ≤ refs0
 HasLists B refs0 refs1 = (1 ≤ refs0) × (1 ≤ refs1)
+
+-- A header as pictures of a stream have it: an IDR picture has an I slice and refers to nothing; others have P or B slices that refer to up to
+-- four pictures by a list
+abbrev pub FitsKind : SliceKind → SliceHead → Type 0
+FitsKind I h = (h.idr ≡ true) × (h.idr_id ≤ 1) × (h.refs0 ≡ 0) × (h.refs1 ≡ 0) × (h.moved ≡ None)
+FitsKind P h = (h.idr ≡ false) × (h.idr_id ≡ 0) × (1 ≤ h.refs0) × (h.refs0 ≤ 4) × (h.refs1 ≡ 0)
+FitsKind B h = (h.idr ≡ false) × (h.idr_id ≡ 0) × (1 ≤ h.refs0) × (h.refs0 ≤ 4) × (1 ≤ h.refs1) × (h.refs1 ≤ 4)
+
+pub record IsStreamHead (h : SliceHead) : Type 0 where
+  pub first_mb : h.first_mb < 2 ^ 32 - 1
+  pub frame_num : h.frame_num < 2 ^ 16
+  pub poc : h.poc < 2 ^ 16
+  pub moved : IfSome h.moved (λ difference. difference < 2 ^ 16)
+  pub kind : FitsKind h.kind h
+  pub qp : h.qp ≤ 51
 
 pub record IsSliceHead (h : SliceHead) : Type 0 where
   pub first_mb : h.first_mb < 2 ^ 32 - 1

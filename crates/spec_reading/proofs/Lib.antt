@@ -1,2 +1,6 @@
 pub mod Laws
 pub mod HeadLaws
+pub mod OtherHeads
+pub mod AllHeads
+pub mod MessageLaws
+mod Rows
