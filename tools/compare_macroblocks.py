@@ -1,58 +1,56 @@
 """Compares the macroblocks that a reference encoder wrote with those of the macroblock layer: the records that it dumps are written
-by crates/code_slices, and each I slice's data must be its bytes.
+by crates/code_slices, and each slice's data must be its bytes.
 
 usage: compare_macroblocks.py FOLDER REFERENCE PROGRAM
 """
-import os, random, re, subprocess, sys
+import os
+import random
+import re
+import subprocess
+import sys
+
+from common import Bits, units
 
 folder, reference, program = sys.argv[1:4]
 
-class Bits:
-    def __init__(self, data):
-        self.text, self.at = "".join(f"{byte:08b}" for byte in data), 0
+KINDS = ["Intra4", "Intra8", "Intra16", "P16", "P16x8", "P8x16", "P8x8", "PSkip", "B16", "B16x8", "B8x16", "B8x8", "BDirect", "BSkip"]
 
-    def u(self, n):
-        self.at += n
-        return int(self.text[self.at - n:self.at] or "0", 2)
-
-    def ue(self):
-        zeros = 0
-        while self.u(1) == 0:
-            zeros += 1
-        return 2 ** zeros - 1 + self.u(zeros)
-
-    def se(self):
-        k = self.ue()
-        return (k + 1) // 2 if k % 2 else -(k // 2)
-
-def without_prevention(payload):  # clause 7.4.1
-    out, zeros = bytearray(), 0
-    for byte in payload:
-        if zeros >= 2 and byte == 3:
-            zeros = 0
-            continue
-        out.append(byte)
-        zeros = zeros + 1 if byte == 0 else 0
-    return bytes(out)
-
-def units(stream):
-    for part in re.split(b"\x00*\x00\x00\x01", stream)[1:]:
-        yield part[0], without_prevention(part[1:])
-
-def slices_of_stream(stream):
-    """First macroblock, QP and data of each slice of an IDR picture (7.3.3, with frame_num and pic_order_cnt_lsb of 16 bits)."""
+def slices_of_stream(stream, unfiltered):
+    """First macroblock, QP, type (0 for I, 1 for P, 2 for B), lengths of the lists and data of each slice (7.3.3, with frame_num and
+    pic_order_cnt_lsb of 16 bits, and disable_deblocking_filter_idc where the loop filter is off)."""
     for header, payload in units(stream):
-        if header & 31 != 5:
+        if header & 31 not in (1, 5):
             continue
         b = Bits(payload)
         first = b.ue()
-        assert b.ue() % 5 == 2
-        b.ue(), b.u(16), b.ue(), b.u(16), b.u(2)
+        kind = {2: 0, 0: 1, 1: 2}[b.ue() % 5]
+        b.ue(), b.u(16)
+        if header & 31 == 5:
+            b.ue()
+        b.u(16)
+        refs = [0, 0]
+        if kind == 2:
+            assert b.u(1) == 1  # direct_spatial_mv_pred_flag
+        if kind:
+            assert b.u(1) == 1  # num_ref_idx_active_override_flag
+            for which in range(kind):
+                refs[which] = b.ue() + 1
+            for which in range(kind):
+                if b.u(1):
+                    while b.ue() != 3:
+                        b.ue()
+        if header & 31 == 5:
+            b.u(2)
+        elif header >> 5:
+            assert b.u(1) == 0  # adaptive_ref_pic_marking_mode_flag
+        if kind:
+            assert b.ue() == 0  # cabac_init_idc
         qp = 26 + b.se()
-        assert b.ue() == 1
+        if unfiltered:
+            assert b.ue() == 1
         while b.at % 8:
             assert b.u(1) == 1
-        yield first, qp, payload[b.at // 8:]
+        yield first, qp, kind, refs, payload[b.at // 8:]
 
 def listed(text, size, out, start):
     for item in text.split(","):
@@ -62,7 +60,7 @@ def listed(text, size, out, start):
             out[start + int(place)] = int(level)
 
 def slices_of_dump(text):
-    """For each slice its macroblocks: 421 numbers each."""
+    """For each slice its macroblocks: 461 numbers each."""
     mbs = None
     for line in text.splitlines():
         words = line.split()
@@ -71,14 +69,20 @@ def slices_of_dump(text):
                 yield mbs
             mbs = []
         elif words[0] == "mb":
-            kind = {"Intra4": 0, "Intra8": 1, "Intra16": 2}[words[3]]
+            kind = KINDS.index(words[3])
             at = words.index("cbp")
             luma, chroma = words[at + 1].split("/")
             record = [kind, int(words[5]), int(words[words.index("chroma_mode") + 1]), int(luma), int(chroma)] + [0] * 416
+            record += [-1, 0, 0] * 8 + [0] * 16
             mbs.append(record)
         elif words[0] == "modes":
             modes = [int(x) for x in re.findall(r"\d+", line)]
             record[5:5 + len(modes)] = modes
+        elif words[0] == "motion":
+            block, *numbers = [int(x) for x in re.findall(r"-?\d+", line)]
+            record[421 + 6 * block:427 + 6 * block] = numbers[:6]
+            for which in range(2):
+                record[445 + 8 * which + 2 * block:447 + 8 * which + 2 * block] = numbers[6 + 2 * which:8 + 2 * which]
         elif words[0] == "luma_dc":
             listed(words[1] if len(words) > 1 else "", 16, record, 21)
         elif words[0] == "luma":
@@ -90,48 +94,56 @@ def slices_of_dump(text):
     if mbs:
         yield mbs
 
-def film(width, height, pictures, noise, edge):
+def film(width, height, pictures, noise, edge, head):
     rows = lambda w, h, f: bytes(min(255, max(0, f(x, y) + random.randint(-noise, noise))) for y in range(h) for x in range(w))
-    out = b"YUV4MPEG2 W%d H%d\n" % (width, height)
+    out = b"YUV4MPEG2 W%d H%d%s\n" % (width, height, head)
     for t in range(pictures):
-        out += b"FRAME\n" + rows(width, height, lambda x, y: 60 + 2 * x + y + edge * (((x - 3 * t) // 8 + (y - t) // 8) % 2))
+        out += b"FRAME\n" + rows(width, height, lambda x, y: 60 + 2 * x + y + edge * (((x - 3 * t) // 8 + (y - t * t // 4) // 8) % 2))
         out += rows(width // 2, height // 2, lambda x, y: 128 + (x - t) // 2) + rows(width // 2, height // 2, lambda x, y: 120 + y)
     return out
+
+def runs(number, qp):
+    """The reference's words: at an early stage for I slices alone, unfiltered; then with P and B slices."""
+    refs = 1 + (qp // 2 + number) % 4
+    words = ["--qp", qp, "--slices", (1, 2, 4)[qp % 3], "--t8x8", "on" if (qp // 3 + number) % 3 else "off"]
+    yield True, ["--stage", 5], words
+    bframes = 0 if refs == 1 else (qp + number) % 5
+    yield False, ["--stage", 12], words + ["--refs", refs, "--bframes", bframes, "--range", 8, "--bitrate", 4000000, "--report", os.path.join(folder, "report")]
 
 def main():
     random.seed(2)
     agreed, failed, kinds = 0, 0, {}
     films = [(48, 64, 0, 40), (64, 64, 4, 60), (80, 64, 30, 10), (48, 80, 127, 0), (32, 64, 1, 0)]
-    for width, height, noise, edge in films:
-        source = os.path.join(folder, "film")
-        with open(source, "wb") as f:
-            f.write(film(width, height, 2, noise, edge))
+    paths = {name: os.path.join(folder, name) for name in ("dump", "out", "recon", "still", "moving")}
+    for number, (width, height, noise, edge) in enumerate(films):
+        with open(paths["still"], "wb") as f:
+            f.write(film(width, height, 1, noise, edge, b""))
+        with open(paths["moving"], "wb") as f:
+            f.write(film(width, height, 9, noise, edge, b" F25:1"))
         for qp in range(52):
-            for slices in ((1, 2, 4)[qp % 3], (2, 4, 1)[qp % 3]):
-                t8x8 = "on" if (qp // 3 + slices) % 3 else "off"
-                paths = {name: os.path.join(folder, name) for name in ("dump", "stream", "recon")}
-                subprocess.run([reference, "--stage", "5", "--dump", paths["dump"], "encode", "--in", source, "--out", paths["stream"],
-                                "--recon", paths["recon"], "--qp", str(qp), "--slices", str(slices), "--t8x8", t8x8], check=True, capture_output=True)
-                written = list(slices_of_stream(open(paths["stream"], "rb").read()))
+            for early, stage, words in runs(number, qp):
+                words = stage + ["--dump", paths["dump"], "encode", "--in", paths["still" if early else "moving"], "--out", paths["out"], "--recon", paths["recon"]] + words
+                subprocess.run([reference, *map(str, words)], check=True, capture_output=True)
+                written = list(slices_of_stream(open(paths["out"], "rb").read(), early))
                 told = list(slices_of_dump(open(paths["dump"]).read()))
                 assert len(written) == len(told), "other slices"
                 lines = ""
-                for (first, slice_qp, _), mbs in zip(written, told):
-                    lines += f"{(width + 15) // 16} {first} {len(mbs)} {slice_qp} {int(t8x8 == 'on')}\n"
+                for (first, slice_qp, kind, lists, _), mbs in zip(written, told):
+                    lines += f"{(width + 15) // 16} {first} {len(mbs)} {slice_qp} {int('on' in words)} {kind} {lists[0]} {lists[1]}\n"
                     lines += "".join(" ".join(map(str, mb)) + "\n" for mb in mbs)
                     for mb in mbs:
-                        kinds[mb[0]] = kinds.get(mb[0], 0) + 1
+                        name = KINDS[mb[0]] + (" of 8x8 transforms" if mb[1] and mb[0] != 1 else "")
+                        kinds[name] = kinds.get(name, 0) + 1
                 run = subprocess.run([program], input=lines.encode(), capture_output=True)
                 codes = [bytes.fromhex(line.decode()) for line in run.stdout.split() if re.fullmatch(b"[0-9A-F]+", line)]
                 codes += [b""] * (len(written) - len(codes))
-                for (first, slice_qp, data), code in zip(written, codes):
+                for (first, slice_qp, kind, lists, data), code in zip(written, codes):
                     if code == data:
                         agreed += 1
                     else:
                         failed += 1
-                        print(f"differs: {width}x{height} qp {qp} slices {slices} t8x8 {t8x8}, slice at macroblock {first}: {run.returncode} {run.stderr[-200:]!r}")
-    names = {0: "Intra 4x4", 1: "Intra 8x8", 2: "Intra 16x16"}
-    print(", ".join(f"{kinds[kind]} {names[kind]}" for kind in sorted(kinds)))
+                        print(f"differs: {width}x{height}, {words}, {'IPB'[kind]} slice of QP {slice_qp} at macroblock {first}: {run.returncode} {run.stderr[-200:]!r}")
+    print(", ".join(f"{kinds[kind]} {kind}" for kind in sorted(kinds)))
     print(f"{agreed} slices agree, {failed} differ")
     sys.exit(1 if failed or not agreed else 0)
 

@@ -1,36 +1,16 @@
 // Whether a macroblock can be where it is.
-ghost use Rattle.std.specs.Prelude.{◌≡◌, ◌≤◌, ◌<◌, ◌+◌, ◌*◌, ◌/◌, ◌==◌, ℕ, true, false, length, get_or, pos, slice_range, replicate, IsTrue, nat_abs};
-ghost use Rattle.enc_tables.specs.declared.records.SliceKind.{SliceKind};
-ghost use Rattle.enc_tables.specs.Kinds.{is_16x16 as whole};
-ghost use Rattle.enc_tables.specs.Records.{zero_vector, no_motion};
+ghost use Rattle.std.specs.Prelude.{◌≡◌, ◌≤◌, ◌<◌, ◌+◌, ◌*◌, ◌/◌, ◌==◌, ℕ, true, false, length, get_or, pos, slice_range, IsTrue, nat_abs};
+ghost use Rattle.enc_tables.specs.Kinds.{is_16x16 as whole, is_intra as intra, is_skipped as skipped};
 ghost use Rattle.spec_contexts.specs.Near.{pointed};
 ghost use Rattle.spec_contexts.specs.Increments.{bit_of, some_level};
 ghost use Rattle.spec_syntax.specs.Blocks.{nonzero};
-ghost use Rattle.spec_macroblock.specs.Records.{IsRecord, KindFits, AreModes, NearModes, WholeFits, AreLevels, level_at, modes_used};
+ghost use Rattle.spec_macroblock.specs.Records.{IsRecord, AreModes, NearModes, WholeFits, AreLevels, level_at, modes_used};
 ghost use Rattle.mb_syntax.specs.Around.{near_of};
 
-use cabac_contexts::{has_bit, is_16x16};
-use enc_tables::{MbKind, MbRecord, SliceKind};
+use crate::inter::{differences_fit, differences_spread, is_in, parts_fit, transform_fits};
+use cabac_contexts::{has_bit, is_16x16, is_intra, is_nxn};
+use enc_tables::{MbKind, MbRecord};
 use mb_syntax::Around;
-
-fn is_i(kind: SliceKind) -> bool
-    ensures { IsTrue result → kind ≡ SliceKind.I }
-{
-    match kind {
-        SliceKind::I => true,
-        _ => false,
-    }
-}
-
-fn kind_fits(t8x8: bool, kind: MbKind, transform8: bool) -> bool
-    ensures { IsTrue result → KindFits t8x8 kind transform8 }
-{
-    match kind {
-        MbKind::Intra4 | MbKind::Intra16 => !transform8,
-        MbKind::Intra8 => t8x8 && transform8,
-        _ => false,
-    }
-}
 
 fn are_modes(modes: &[u8; 16]) -> bool
     ensures { IsTrue result → AreModes modes.now }
@@ -57,6 +37,9 @@ fn used(mb: &MbRecord) -> usize
 {
     if is_16x16(mb.kind) {
         return 1;
+    }
+    if !is_nxn(mb.kind) {
+        return 0;
     }
     if mb.transform8 { 4 } else { 16 }
 }
@@ -188,16 +171,52 @@ fn luma_places(mb: &MbRecord) -> bool
     true
 }
 
+// Only intra macroblocks have a chroma mode.
+fn chroma_mode_fits(mb: &MbRecord) -> bool
+    ensures { IsTrue result → intra mb.now.kind ≡ false → mb.now.chroma_mode ≡ 0 }
+{
+    is_intra(mb.kind) || mb.chroma_mode == 0
+}
+
+fn is_skipped(kind: MbKind) -> bool
+    ensures { result ≡ skipped kind }
+{
+    matches!(kind, MbKind::PSkip | MbKind::BSkip)
+}
+
+// Skipped macroblocks have no residual.
+fn pattern_fits(mb: &MbRecord) -> bool
+    ensures { IsTrue result → skipped mb.now.kind ≡ true → (mb.now.luma_cbp ≡ 0) × (mb.now.chroma_cbp ≡ 0) }
+{
+    if !is_skipped(mb.kind) {
+        return true;
+    }
+    mb.luma_cbp == 0 && mb.chroma_cbp == 0
+}
+
 /// Whether the syntax can give the macroblock where this is around it, with the QP of the macroblock before.
 pub fn is_record(mb: &MbRecord, around: &Around) -> bool
-    requires motion { mb.now.motion ≡ replicate 4 no_motion }
-    requires mvd { mb.now.mvd ≡ replicate 8 zero_vector }
     ensures { IsTrue result → IsRecord (near_of around.now mb.now) mb.now }
 {
-    if !is_i(around.kind) {
+    if !is_in(around.kind, mb.kind) {
         return false;
     }
-    if !kind_fits(around.t8x8, mb.kind, mb.transform8) {
+    if !transform_fits(around.t8x8, mb.kind, mb.luma_cbp != 0, mb.transform8) {
+        return false;
+    }
+    if !parts_fit(mb, around) {
+        return false;
+    }
+    if !differences_fit(mb) {
+        return false;
+    }
+    if !differences_spread(mb) {
+        return false;
+    }
+    if !chroma_mode_fits(mb) {
+        return false;
+    }
+    if !pattern_fits(mb) {
         return false;
     }
     if !near_modes(around.left) {

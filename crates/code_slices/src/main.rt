@@ -1,14 +1,15 @@
-//! Writes the data of I slices by the macroblock layer. Standard input has a line of five numbers for each slice, as `Head` reads them,
-//! and behind it a line of 421 numbers for each of its macroblocks, as `record_of` reads them. Standard output gets a line for each
-//! slice: its data's bytes in hexadecimal, the last one filled up with zeros.
+//! Writes the data of I, P and B slices by the macroblock layer. Standard input has a line of eight numbers for each slice, as `Head`
+//! reads them, and behind it a line of 461 numbers for each of its macroblocks, as `record_of` reads them. Standard output gets a line for
+//! each slice: its data's bytes in hexadecimal, the last one filled up with zeros.
 #![tactic(auto)]
 
 mod check;
+mod inter;
 mod numbers;
 mod slice;
 
 use bit_strings::Full;
-use enc_tables::MbRecord;
+use enc_tables::{MbRecord, SliceKind};
 use numbers::{Head, head_of, read_numbers, record_of};
 use slice::write_slice;
 use std::alloc::{AllocError, Global};
@@ -89,6 +90,9 @@ fn run(rt: &HostRuntime) -> Result<(), Fault> {
         count: 0,
         qp: 0,
         t8x8: false,
+        kind: SliceKind::I,
+        refs0: 0,
+        refs1: 0,
     };
     let mut records: Vec<MbRecord> = Vec::new(alloc);
     for text in BufReader::new(alloc, rt.reader())?.lines(alloc) {

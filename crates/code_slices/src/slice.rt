@@ -1,6 +1,5 @@
 // Slices, macroblock by macroblock.
-ghost use Rattle.std.specs.Prelude.{◌≡◌, ◌≤◌, ◌<◌, false, true, length, replicate, IfOk};
-ghost use Rattle.enc_tables.specs.Records.{zero_vector, no_motion};
+ghost use Rattle.std.specs.Prelude.{◌≡◌, ◌≤◌, ◌<◌, false, IfOk};
 ghost use Rattle.bin_writer.specs.Coding.{seen, IsReady};
 
 use crate::Fault;
@@ -9,24 +8,9 @@ use crate::numbers::Head;
 use bit_strings::BitBuf;
 use cabac_coder::Coder;
 use cabac_contexts::Contexts;
-use enc_tables::{MbRecord, Motion, SliceKind, Vector};
+use enc_tables::MbRecord;
 use mb_syntax::{Around, write_mb};
 use std::alloc::Global;
-
-// The same macroblock without motion.
-fn still(mb: &MbRecord) -> MbRecord
-    ensures motion { result.motion ≡ replicate 4 no_motion }
-    ensures mvd { result.mvd ≡ replicate 8 zero_vector }
-{
-    MbRecord {
-        motion: [Motion {
-            refs: [-1, -1],
-            vectors: [Vector { x: 0, y: 0 }; 2],
-        }; 4],
-        mvd: [Vector { x: 0, y: 0 }; 8],
-        ..*mb
-    }
-}
 
 // The column of a macroblock of a slice.
 fn column(head: &Head, place: usize) -> usize {
@@ -55,9 +39,9 @@ fn around_of<'a>(before: &'a [MbRecord], head: &Head) -> Around<'a> {
         left,
         above,
         last_delta: false,
-        kind: SliceKind::I,
-        refs0: 0,
-        refs1: 0,
+        kind: head.kind,
+        refs0: head.refs0,
+        refs1: head.refs1,
         t8x8: head.t8x8,
     }
 }
@@ -71,11 +55,10 @@ fn write_checked(
     requires { IsReady (seen coder.old contexts.old) }
     ensures { IfOk result (λ _. IsReady (seen coder.new contexts.new)) }
 {
-    let mb = still(mb);
-    if !is_record(&mb, around) {
+    if !is_record(mb, around) {
         return Err(Fault::NoRecord);
     }
-    write_mb(coder, contexts, &mb, around)?;
+    write_mb(coder, contexts, mb, around)?;
     Ok(())
 }
 
@@ -88,7 +71,7 @@ pub fn write_slice(alloc: Global, head: &Head, records: &[MbRecord]) -> Result<B
         return Err(Fault::NoNumbers);
     };
     let mut coder = Coder::start(BitBuf::with_room(alloc, 1_000_000)?);
-    let mut contexts = Contexts::init(SliceKind::I, head.qp);
+    let mut contexts = Contexts::init(head.kind, head.qp);
     for k in 0..others.len() {
         write_checked(
             &mut coder,

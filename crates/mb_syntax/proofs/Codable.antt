@@ -1,24 +1,26 @@
 -- The bins of a macroblock's elements can be coded: none ends the code, and each context has a state.
-use Rattle.std.proofs.Common.{◌≡◌, ℕ, zero, suc, ◌+◌, ◌/◌, ◌%◌, ◌<◌, ◌≤◌, Bool, true, false, cond, not, ◌==◌, List, [], ◌∷◌, get_or, refl, arith, inr, ◌++◌}
+use Rattle.std.proofs.Common.{◌≡◌, ℕ, ◌+◌, ◌<◌, ◌≤◌, Bool, true, false, List, [], ◌∷◌, refl, arith, inr, ◌++◌}
 use Rattle.std.specs.Prelude.{ℤ}
 use Rattle.std.specs.List.{AllByRecursion}
 use Rattle.std.proofs.lemmas.Bool.Decides.{nat_tests}
-use Rattle.enc_tables.specs.declared.records.MbKind.{MbKind}
 use Rattle.enc_tables.specs.declared.records.MbRecord.{MbRecord}
 use Rattle.spec_syntax.specs.Syntax.{at}
-use Rattle.spec_syntax.specs.Elements.{NxN, Pcm, Whole, is_whole, is_pcm, intra_type_string, mode_rem_string, chroma_mode_at, chroma_mode_string, luma_pattern_string, inc_of, chroma_pattern_at, chroma_pattern_string, delta_at, mapped, qp_delta_string, string}
+use Rattle.spec_syntax.specs.Elements.{IntraType, type_at, type_bits, intra_type_string, mode_rem_string, chroma_mode_at, chroma_mode_string, luma_pattern_string, inc_of, chroma_pattern_at, chroma_pattern_string, delta_at, mapped, qp_delta_string, string}
 use Rattle.spec_syntax.specs.Numbers.{low_first, truncated, unary}
-use Rattle.spec_syntax.specs.Inter.{type_string}
-use Rattle.spec_slice.specs.Decoding.{is_terminate}
-use Rattle.spec_macroblock.specs.Near.{Near}
-use Rattle.spec_macroblock.specs.Records.{IsRecord, KindFits}
+use Rattle.spec_syntax.specs.Inter.{suffix_at, PType, p_at, p_bits, p_type_string, BType, b_at, b_bits, b_type_string, type_string}
+use Rattle.spec_slice.specs.Decoding.{is_terminate, GoesOn}
+use Rattle.spec_partitions.specs.Near.{Near}
+use Rattle.spec_macroblock.specs.Records.{IsRecord}
+use Rattle.spec_macroblock.specs.Strings.{inc_type}
+use Rattle.spec_macroblock.proofs.GoesOn.{type_inc, goes_type}
+use Rattle.spec_partitions.proofs.InterGoesOn.{type_b_inc}
+use Rattle.enc_tables.specs.declared.records.SliceKind.{SliceKind}
 use Rattle.bin_writer.specs.Coding.{IsCodable}
-use Rattle.mb_binarise.proofs.Strings.{whole_without, whole_with}
 
 not_terminate : (c : ℕ) → c < 276 → is_terminate c ≡ false
 not_terminate c h = grind (arith, nat_tests)
 
-low : (c : ℕ) (b : Bool) → c < 276 → IsCodable (at c b)
+pub low : (c : ℕ) (b : Bool) → c < 276 → IsCodable (at c b)
 low c b h = let e : is_terminate c ≡ false = not_terminate c h in inr (omega arith, rw e refl)
 
 no_end : IsCodable (at 276 false)
@@ -71,35 +73,64 @@ delta_codable inc delta h = low_string (delta_at inc) below [] (unary (mapped de
 
 -- ---- mb_type
 
-nxn_codable : (inc : ℕ) → inc ≤ 2 → AllByRecursion IsCodable (intra_type_string inc NxN)
+-- bins whose contexts have a state, and of which none ends the code
+codable_string : (ctx : List Bool → ℕ) → ((before : List Bool) → ctx before < 436) → (before bits : List Bool) → GoesOn (string ctx before bits) → AllByRecursion IsCodable (string ctx before bits)
+unfolding GoesOn
+codable_string ctx h before [] g = tt
+codable_string ctx h before (b ∷ bits) g = (inr (h before, g.0), codable_string ctx h (before ++ b ∷ []) bits g.1)
+
+i_below : (inc : ℕ) → inc ≤ 2 → (xs : List Bool) → type_at inc xs < 436
+i_below inc h [] = omega arith
+i_below inc h (a ∷ []) = omega arith
+i_below inc h (a ∷ b ∷ []) = omega arith
+i_below inc h (a ∷ b ∷ c ∷ []) = omega arith
+i_below inc h (a ∷ b ∷ c ∷ true ∷ []) = omega arith
+i_below inc h (a ∷ b ∷ c ∷ false ∷ []) = omega arith
+i_below inc h (a ∷ b ∷ c ∷ true ∷ d ∷ []) = omega arith
+i_below inc h (a ∷ b ∷ c ∷ true ∷ d ∷ e ∷ xs) = omega arith
+i_below inc h (a ∷ b ∷ c ∷ false ∷ d ∷ xs) = omega arith
+
+suffix_below : (from : ℕ) → from ≤ 32 → (xs : List Bool) → suffix_at from xs < 436
+suffix_below from h [] = omega arith
+suffix_below from h (a ∷ []) = omega arith
+suffix_below from h (a ∷ b ∷ []) = omega arith
+suffix_below from h (a ∷ b ∷ c ∷ []) = omega arith
+suffix_below from h (a ∷ b ∷ c ∷ true ∷ []) = omega arith
+suffix_below from h (a ∷ b ∷ c ∷ false ∷ []) = omega arith
+suffix_below from h (a ∷ b ∷ c ∷ true ∷ d ∷ xs) = omega arith
+suffix_below from h (a ∷ b ∷ c ∷ false ∷ d ∷ xs) = omega arith
+
+p_below : (xs : List Bool) → p_at xs < 436
+p_below [] = omega arith
+p_below (true ∷ xs) = suffix_below 17 (omega arith) xs
+p_below (false ∷ []) = omega arith
+p_below (false ∷ false ∷ xs) = omega arith
+p_below (false ∷ true ∷ xs) = omega arith
+
+b_below : (inc : ℕ) → inc ≤ 2 → (xs : List Bool) → b_at inc xs < 436
+b_below inc h [] = omega arith
+b_below inc h (a ∷ []) = omega arith
+b_below inc h (a ∷ true ∷ []) = omega arith
+b_below inc h (a ∷ false ∷ []) = omega arith
+b_below inc h (true ∷ true ∷ true ∷ true ∷ false ∷ true ∷ xs) = suffix_below 32 (omega arith) xs
+b_below inc h (a ∷ b ∷ c ∷ xs) = omega arith
+
+i_codable : (inc : ℕ) (t : IntraType) → inc ≤ 2 → GoesOn (intra_type_string inc t) → AllByRecursion IsCodable (intra_type_string inc t)
 unfolding intra_type_string
-nxn_codable inc h = (low (3 + inc) false (omega arith), tt)
+i_codable inc t h g = codable_string (type_at inc) (i_below inc h) [] (type_bits t) g
 
-whole_codable : (inc mode chroma : ℕ) (ac : Bool) → inc ≤ 2 → chroma < 3 → AllByRecursion IsCodable (intra_type_string inc (Whole mode chroma ac))
-whole_codable inc mode zero ac h k =
-    rw (whole_without inc mode zero ac refl)
-    (low (3 + inc) true (omega arith), (no_end, (low 6 ac (omega arith), (low 7 false (omega arith), (low 9 (mode / 2 == 1) (omega arith), (low 10 (mode % 2 == 1) (omega arith), tt))))))
-whole_codable inc mode (suc c) ac h k =
-    rw (whole_with inc mode (suc c) ac (omega arith) k)
-    (low (3 + inc) true (omega arith), (no_end, (low 6 ac (omega arith), (low 7 true (omega arith), (low 8 (suc c == 2) (omega arith), (low 9 (mode / 2 == 1) (omega arith), (low 10 (mode % 2 == 1) (omega arith), tt)))))))
+p_codable : (t : PType) → GoesOn (p_type_string t) → AllByRecursion IsCodable (p_type_string t)
+unfolding p_type_string
+p_codable t g = codable_string p_at p_below [] (p_bits t) g
 
-kind_codable : (inc : ℕ) (mb : MbRecord) → inc ≤ 2 → mb.chroma_cbp < 3 → (t8 : Bool) (kind : MbKind) (transform8 : Bool) → KindFits t8 kind transform8
-    → AllByRecursion IsCodable (intra_type_string inc (cond (is_whole kind) (Whole (get_or mb.modes 0 0) mb.chroma_cbp (not (mb.luma_cbp == 0))) (cond (is_pcm kind) Pcm NxN)))
-kind_codable inc mb h k t8 MbKind.Intra4 transform8 f = nxn_codable inc h
-kind_codable inc mb h k t8 MbKind.Intra8 transform8 f = nxn_codable inc h
-kind_codable inc mb h k t8 MbKind.Intra16 transform8 f = whole_codable inc _ _ _ h k
-kind_codable inc mb h k t8 MbKind.Pcm transform8 f = absurd f
-kind_codable inc mb h k t8 MbKind.P16 transform8 f = absurd f
-kind_codable inc mb h k t8 MbKind.P16x8 transform8 f = absurd f
-kind_codable inc mb h k t8 MbKind.P8x16 transform8 f = absurd f
-kind_codable inc mb h k t8 MbKind.P8x8 transform8 f = absurd f
-kind_codable inc mb h k t8 MbKind.PSkip transform8 f = absurd f
-kind_codable inc mb h k t8 MbKind.B16 transform8 f = absurd f
-kind_codable inc mb h k t8 MbKind.B16x8 transform8 f = absurd f
-kind_codable inc mb h k t8 MbKind.B8x16 transform8 f = absurd f
-kind_codable inc mb h k t8 MbKind.B8x8 transform8 f = absurd f
-kind_codable inc mb h k t8 MbKind.BDirect transform8 f = absurd f
-kind_codable inc mb h k t8 MbKind.BSkip transform8 f = absurd f
+b_codable : (inc : ℕ) (t : BType) → inc ≤ 2 → GoesOn (b_type_string inc t) → AllByRecursion IsCodable (b_type_string inc t)
+unfolding b_type_string
+b_codable inc t h g = codable_string (b_at inc) (b_below inc h) [] (b_bits t) g
 
-pub type_codable : (near : Near) (mb : MbRecord) (inc : ℕ) → IsRecord near mb → inc ≤ 2 → AllByRecursion IsCodable (type_string near.kind inc mb)
-type_codable near mb inc h k = rw h.in_slice (kind_codable inc mb k (omega (arith, h.chroma_cbp_fits)) near.t8x8 mb.kind mb.transform8 h.kind_fits)
+pub type_codable : (near : Near) (mb : MbRecord) → IsRecord near mb → AllByRecursion IsCodable (type_string near.kind (inc_type near.kind near) mb)
+type_codable near mb h = go near.kind (goes_type near mb near.kind refl h)
+  where
+    go : (s : SliceKind) → GoesOn (type_string s (inc_type s near) mb) → AllByRecursion IsCodable (type_string s (inc_type s near) mb)
+    go SliceKind.I g = i_codable _ _ (type_inc near.left near.above) g
+    go SliceKind.P g = p_codable _ g
+    go SliceKind.B g = b_codable _ _ (type_b_inc near.left near.above) g

@@ -1,5 +1,5 @@
-//! Macroblocks, written as the macroblock layer of ITU-T H.264 (clause 7.3.5) has them, in arithmetic code. Here they are the
-//! macroblocks of I slices, I_PCM left out.
+//! Macroblocks, written as the macroblock layer of ITU-T H.264 (clause 7.3.5) has them, in arithmetic code: those of I, P and B
+//! slices, I_PCM left out.
 #![tactic(auto)]
 
 ghost use Rattle.std.specs.Prelude.{◌≡◌, false};
@@ -8,6 +8,8 @@ ghost use Rattle.spec_syntax.specs.Syntax.{Reads};
 ghost use Rattle.spec_slice.specs.Decoding.{GoesOn};
 ghost use Rattle.spec_macroblock.specs.Macroblock.{macroblock};
 ghost use Rattle.spec_macroblock.specs.Strings.{macroblock_string};
+ghost use Rattle.spec_partitions.specs.Near.{View};
+ghost use Rattle.spec_partitions.specs.Records.{HasMotion};
 ghost use Rattle.spec_macroblock.specs.Records.{IsRecord};
 ghost use Rattle.bin_writer.specs.Coding.{seen, IsReady, Codes, Written};
 ghost use Rattle.mb_syntax.specs.Around.{near_of};
@@ -15,6 +17,7 @@ ghost use Rattle.mb_syntax.specs.Around.{near_of};
 mod heads;
 mod levels;
 mod modes;
+mod parts;
 mod patterns;
 
 use bin_writer::outcome;
@@ -22,9 +25,10 @@ use bit_strings::Full;
 use cabac_coder::Coder;
 use cabac_contexts::Contexts;
 use enc_tables::{MbRecord, SliceKind};
-use heads::{write_chroma_mode, write_transform, write_type};
+use heads::{write_chroma_mode, write_head, write_inter_transform, write_transform};
 use levels::{write_chroma_ac, write_chroma_dc, write_luma, write_luma_dc};
 use modes::write_modes;
+pub use parts::{first_block, has_motion, part_count, shape_of, uses_list};
 use patterns::{write_chroma_pattern, write_luma_pattern, write_qp};
 
 /// What is known around a macroblock before it is written.
@@ -53,12 +57,13 @@ pub fn code_mb(coder: &mut Coder, contexts: &mut Contexts, mb: &MbRecord, around
     requires record_ { IsRecord (near_of around.now mb.now) mb.now }
     ensures { Codes (seen coder.old contexts.old) (macroblock_string (near_of around.now mb.now) mb.now) (seen coder.new contexts.new) }
 {
-    write_type(coder, contexts, mb, around);
+    write_head(coder, contexts, mb, around);
     write_transform(coder, contexts, mb, around);
     write_modes(coder, contexts, mb, around);
     write_chroma_mode(coder, contexts, mb, around);
     write_luma_pattern(coder, contexts, mb, around);
     write_chroma_pattern(coder, contexts, mb, around);
+    write_inter_transform(coder, contexts, mb, around);
     write_qp(coder, contexts, mb, around);
     write_luma_dc(coder, contexts, mb, around);
     write_luma(coder, contexts, mb, around);
@@ -84,7 +89,7 @@ pub fn write_mb(
 
     // The string doesn't end the code, and the macroblock's syntax reads the record back from it.
     ensures goes_on { GoesOn (macroblock_string (near_of around.now mb.now) mb.now) }
-    ensures read_back { Reads (macroblock (near_of around.now mb.now)) (macroblock_string (near_of around.now mb.now) mb.now) mb.now }
+    ensures read_back { (view : View) → view.near ≡ near_of around.now mb.now → HasMotion view mb.now → Reads (macroblock view) (macroblock_string (near_of around.now mb.now) mb.now) mb.now }
 {
     code_mb(coder, contexts, mb, around);
     outcome(coder)

@@ -1,6 +1,6 @@
 // coded_block_pattern and mb_qp_delta.
 ghost use Rattle.std.specs.Prelude.{◌≡◌, ◌≤◌, ◌∷◌, []};
-ghost use Rattle.spec_macroblock.specs.Near.{has_residual as has_residual_of};
+ghost use Rattle.spec_partitions.specs.Near.{has_pattern as has_pattern_of, has_residual as has_residual_of};
 ghost use Rattle.spec_macroblock.specs.Strings.{luma_cbp_string, chroma_cbp_string, qp_string, luma_pattern_incs};
 ghost use Rattle.spec_macroblock.specs.Records.{IsRecord};
 ghost use Rattle.bin_writer.specs.Coding.{seen, IsReady, Codes};
@@ -10,8 +10,14 @@ use crate::Around;
 use bin_writer::code_bins;
 use cabac_coder::Coder;
 use cabac_contexts::{Contexts, inc_chroma_cbp, inc_luma_cbp, inc_qp_delta, is_16x16};
-use enc_tables::MbRecord;
+use enc_tables::{MbKind, MbRecord};
 use mb_binarise::{bins_chroma_cbp, bins_luma_cbp, bins_qp_delta};
+
+fn has_pattern(kind: MbKind) -> bool
+    ensures { result ≡ has_pattern_of kind }
+{
+    !matches!(kind, MbKind::Intra16 | MbKind::PSkip | MbKind::BSkip)
+}
 
 /// The luma bits of the pattern.
 pub fn write_luma_pattern(
@@ -24,7 +30,7 @@ pub fn write_luma_pattern(
     requires record_ { IsRecord (near_of around.now mb.now) mb.now }
     ensures { Codes (seen coder.old contexts.old) (luma_cbp_string (near_of around.now mb.now) mb.now) (seen coder.new contexts.new) }
 {
-    if is_16x16(mb.kind) {
+    if !has_pattern(mb.kind) {
         return;
     }
     let first = inc_luma_cbp(mb, around.left, around.above, 0);
@@ -46,7 +52,7 @@ pub fn write_chroma_pattern(
     requires record_ { IsRecord (near_of around.now mb.now) mb.now }
     ensures { Codes (seen coder.old contexts.old) (chroma_cbp_string (near_of around.now mb.now) mb.now) (seen coder.new contexts.new) }
 {
-    if is_16x16(mb.kind) {
+    if !has_pattern(mb.kind) {
         return;
     }
     let first = inc_chroma_cbp(around.left, around.above, false);

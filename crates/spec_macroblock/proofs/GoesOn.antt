@@ -4,22 +4,26 @@ use Rattle.std.specs.Prelude.{◌==◌, nat_le, ℤ}
 use Rattle.enc_tables.specs.declared.records.MbKind.{MbKind}
 use Rattle.enc_tables.specs.declared.records.MbRecord.{MbRecord}
 use Rattle.enc_tables.specs.declared.records.SliceKind.{SliceKind}
-use Rattle.enc_tables.specs.Kinds.{is_nxn, is_16x16, is_intra}
+use Rattle.enc_tables.specs.Kinds.{is_nxn, is_16x16, is_intra, is_skipped}
 use Rattle.spec_syntax.specs.Blocks.{block_string}
-use Rattle.spec_contexts.specs.Increments.{weight, plain, doubled, bit_of, inc_type_i, inc_transform, inc_chroma_mode, inc_luma_cbp, inc_chroma_cbp, inc_qp_delta, inc_luma_dc, inc_luma, inc_chroma_dc, inc_chroma_ac, inc_coded}
+use Rattle.spec_contexts.specs.Increments.{weight, plain, doubled, bit_of, has_motion, inc_skip, inc_type_i, inc_type_b, inc_transform, inc_chroma_mode, inc_luma_cbp, inc_chroma_cbp, inc_qp_delta, inc_luma_dc, inc_luma, inc_chroma_dc, inc_chroma_ac, inc_coded}
+use Rattle.spec_syntax.specs.declared.ListUse.{ListUse}
 use Rattle.spec_syntax.specs.Syntax.{flag_string}
-use Rattle.spec_syntax.specs.Elements.{mode_flag, NxN, Pcm, Whole, is_whole, is_pcm, intra_type_string, mode_rem_string, chroma_mode_string, luma_pattern_string, inc_of, chroma_pattern_string, transform_flag, qp_delta_string, delta_at, chroma_mode_at, chroma_pattern_at}
+use Rattle.spec_syntax.specs.Sequences.{string_where}
+use Rattle.spec_syntax.specs.Elements.{IntraType, mode_flag, NxN, Pcm, Whole, is_whole, is_pcm, intra_type_of, intra_type_string, mode_rem_string, chroma_mode_string, luma_pattern_string, inc_of, chroma_pattern_string, transform_flag, qp_delta_string, delta_at, chroma_mode_at, chroma_pattern_at}
 use Rattle.spec_syntax.specs.Numbers.{low_first}
-use Rattle.spec_syntax.specs.Inter.{type_string}
+use Rattle.spec_syntax.specs.Inter.{has_inter, skip_at, type_string, p_type_of, p_type_by, b_type_of, b_type_by, block_use}
 use Rattle.spec_slice.specs.Decoding.{GoesOn}
 use Rattle.spec_slice.proofs.Decoded.{goes_on_append}
-use Rattle.spec_macroblock.specs.Near.{Near, has_residual}
-use Rattle.spec_macroblock.specs.Parts.{parts_string}
+use Rattle.spec_partitions.specs.Near.{Near, has_pattern, can_have_8x8, has_residual}
+use Rattle.spec_partitions.specs.Inter.{is_four, sub_types_string}
+use Rattle.spec_partitions.specs.Parts.{parts_string}
 use Rattle.spec_macroblock.specs.Modes.{predicted, mode_count, mode_string, rem_of_mode}
-use Rattle.spec_macroblock.specs.Strings.{inc_type, macroblock_string, mb_type_string, transform_string, mode_part_string, modes_string, intra_chroma_string, luma_pattern_incs, luma_cbp_string, chroma_cbp_string, difference, qp_string, luma_dc_string, luma4_string, luma8_string, luma_string, chroma_dc_part_string, chroma_dc_string, chroma_ac_part_string, chroma_ac_string}
-use Rattle.spec_macroblock.specs.Records.{KindFits, IsRecord}
-use Rattle.spec_macroblock.proofs.Heads.{three_kinds}
-use Rattle.spec_macroblock.proofs.Contexts.{Plain, plain_below, plain_above, one_bin, goes_flag, goes_string, goes_where, goes_parts, goes_some, goes_block}
+use Rattle.spec_macroblock.specs.Strings.{inc_type, macroblock_string, head_string, mb_type_string, inter_transform_string, transform_string, mode_part_string, modes_string, intra_chroma_string, luma_pattern_incs, luma_cbp_string, chroma_cbp_string, difference, qp_string, luma_dc_string, luma4_string, luma8_string, luma_string, chroma_dc_part_string, chroma_dc_string, chroma_ac_part_string, chroma_ac_string}
+use Rattle.spec_partitions.specs.Records.{is_in}
+use Rattle.spec_macroblock.specs.Records.{IsRecord}
+use Rattle.spec_partitions.proofs.InterGoesOn.{IsRead, ReadP, ReadB, skip_inc, type_b_inc, goes_p, goes_b, goes_subs, goes_inter}
+use Rattle.spec_partitions.proofs.Contexts.{Plain, plain_below, plain_above, one_bin, goes_flag, goes_string, goes_where, goes_parts, goes_some, goes_block}
 
 -- ---- increments
 
@@ -33,7 +37,7 @@ plain_small a b = omega (arith, weight_small a, weight_small b)
 doubled_small : (a b : Bool) → doubled a b ≤ 3
 doubled_small a b = omega (arith, weight_small a, weight_small b)
 
-type_inc : (left above : Option MbRecord) → inc_type_i left above ≤ 2
+pub type_inc : (left above : Option MbRecord) → inc_type_i left above ≤ 2
 unfolding inc_type_i
 type_inc left above = plain_small _ _
 
@@ -78,19 +82,67 @@ goes_nxn : (inc : ℕ) → inc ≤ 2 → GoesOn (intra_type_string inc NxN)
 unfolding intra_type_string
 goes_nxn inc h = one_bin (3 + inc) false (plain_below (3 + inc) (omega arith))
 
-goes_intra : (inc mode chroma : ℕ) (ac : Bool) → inc ≤ 2 → chroma ≤ 2 → (t : Bool) (k : MbKind) (t8 : Bool) → KindFits t k t8
-    → GoesOn (intra_type_string inc (cond (is_whole k) (Whole mode chroma ac) (cond (is_pcm k) Pcm NxN)))
-goes_intra inc mode chroma ac h k = three_kinds (λ t kind t8. GoesOn (intra_type_string inc (cond (is_whole kind) (Whole mode chroma ac) (cond (is_pcm kind) Pcm NxN))))
-    (λ t. goes_nxn inc h) (goes_nxn inc h) (λ t. goes_whole inc mode chroma ac h k)
+goes_i : (inc : ℕ) (t : IntraType) → inc ≤ 2 → IsRead t → GoesOn (intra_type_string inc t)
+unfolding IsRead
+goes_i inc NxN h k = goes_nxn inc h
+goes_i inc Pcm h k = absurd k
+goes_i inc (Whole mode chroma ac) h k = goes_whole inc mode chroma ac h k
 
-goes_type : (near : Near) (mb : MbRecord) (s : SliceKind) → s ≡ SliceKind.I → IsRecord near mb → GoesOn (type_string s (inc_type s near) mb)
-goes_type near mb SliceKind.I e h = goes_intra (inc_type_i near.left near.above) (get_or mb.modes 0 0) mb.chroma_cbp (not (mb.luma_cbp == 0)) (type_inc near.left near.above) h.chroma_cbp_fits near.t8x8 mb.kind mb.transform8 h.kind_fits
-goes_type near mb SliceKind.P e h = absurd cc
-goes_type near mb SliceKind.B e h = absurd cc
+-- I_PCM isn't among them
+not_pcm : (s : SliceKind) (k : MbKind) → is_in s k ≡ true → is_pcm k ≡ false
+not_pcm SliceKind.I MbKind.Pcm e = absurd cc
+not_pcm SliceKind.P MbKind.Pcm e = absurd cc
+not_pcm SliceKind.B MbKind.Pcm e = absurd cc
+not_pcm s _ e = refl
+
+is_read : (w p : Bool) (mode chroma : ℕ) (ac : Bool) → chroma ≤ 2 → p ≡ false → IsRead (cond w (Whole mode chroma ac) (cond p Pcm NxN))
+unfolding IsRead
+is_read true p mode chroma ac h e = h
+is_read false true mode chroma ac h e = absurd cc
+is_read false false mode chroma ac h e = tt
+
+read_p : (k : MbKind) (t : IntraType) → IsRead t → ReadP (p_type_by k t)
+unfolding ReadP
+read_p MbKind.P16 t h = tt
+read_p MbKind.P16x8 t h = tt
+read_p MbKind.P8x16 t h = tt
+read_p MbKind.P8x8 t h = tt
+read_p _ t h = h
+
+read_b : (k : MbKind) (u v w : ListUse) (t : IntraType) → IsRead t → ReadB (b_type_by k u v w t)
+unfolding ReadB
+read_b MbKind.BDirect u v w t h = tt
+read_b MbKind.B16 u v w t h = tt
+read_b MbKind.B16x8 u v w t h = tt
+read_b MbKind.B8x16 u v w t h = tt
+read_b MbKind.B8x8 u v w t h = tt
+read_b _ u v w t h = h
+
+pub goes_type : (near : Near) (mb : MbRecord) (s : SliceKind) → near.kind ≡ s → IsRecord near mb → GoesOn (type_string s (inc_type s near) mb)
+goes_type near mb s e h = go s (is_read (is_whole mb.kind) (is_pcm mb.kind) (get_or mb.modes 0 0) mb.chroma_cbp (not (mb.luma_cbp == 0)) h.chroma_cbp_fits (not_pcm near.kind mb.kind h.in_slice))
+  where
+    go : (s : SliceKind) → IsRead (intra_type_of mb) → GoesOn (type_string s (inc_type s near) mb)
+    go SliceKind.I r = goes_i (inc_type_i near.left near.above) (intra_type_of mb) (type_inc near.left near.above) r
+    go SliceKind.P r = goes_p (p_type_of mb) (read_p mb.kind (intra_type_of mb) r)
+    go SliceKind.B r = goes_b (inc_type_b near.left near.above) (b_type_of mb) (type_b_inc near.left near.above) (read_b mb.kind (block_use mb 0) (block_use mb 1) (block_use mb 2) (intra_type_of mb) r)
 
 goes_mb_type : (near : Near) (mb : MbRecord) → IsRecord near mb → GoesOn (mb_type_string near mb)
 unfolding mb_type_string
-goes_mb_type near mb h = goes_type near mb near.kind h.in_slice h
+goes_mb_type near mb h = goes_type near mb near.kind refl h
+
+skip_plain : (s : SliceKind) (inc : ℕ) → inc ≤ 2 → Plain (skip_at s inc)
+skip_plain SliceKind.I inc h = plain_below (11 + inc) (omega arith)
+skip_plain SliceKind.P inc h = plain_below (11 + inc) (omega arith)
+skip_plain SliceKind.B inc h = plain_below (24 + inc) (omega arith)
+
+goes_head : (near : Near) (mb : MbRecord) → IsRecord near mb → GoesOn (head_string near mb)
+unfolding head_string
+goes_head near mb h =
+    let c = skip_at near.kind (inc_skip near.left near.above) in
+    goes_on_append (string_where (has_inter near.kind) (flag_string c (is_skipped mb.kind))) _
+    (goes_where (has_inter near.kind) (flag_string c (is_skipped mb.kind)) (goes_flag c (is_skipped mb.kind) (skip_plain near.kind (inc_skip near.left near.above) (skip_inc near.left near.above))))
+    (goes_where (not (is_skipped mb.kind)) _ (goes_on_append (mb_type_string near mb) _ (goes_mb_type near mb h)
+    (goes_on_append (string_where (is_four mb.kind) (sub_types_string near.kind mb)) _ (goes_where (is_four mb.kind) _ (goes_subs near.kind mb)) (goes_where (has_motion mb.kind) _ (goes_inter near mb)))))
 
 goes_transform : (near : Near) (mb : MbRecord) → GoesOn (transform_string near mb)
 unfolding transform_string
@@ -109,6 +161,12 @@ goes_mode p m = go (m == p)
     go : (b : Bool) → GoesOn (cond b (flag_string mode_flag true) (flag_string mode_flag false ++ mode_rem_string (rem_of_mode p m)))
     go true = goes_flag mode_flag true refl
     go false = goes_on_append (flag_string mode_flag false) (mode_rem_string (rem_of_mode p m)) (goes_flag mode_flag false refl) (goes_rem (rem_of_mode p m))
+
+goes_inter_transform : (near : Near) (mb : MbRecord) → GoesOn (inter_transform_string near mb)
+unfolding inter_transform_string
+goes_inter_transform near mb =
+    let c = transform_flag (inc_transform near.left near.above) in
+    goes_where (near.t8x8 && can_have_8x8 mb) (flag_string c mb.transform8) (goes_flag c mb.transform8 (plain_above c (omega (arith, transform_inc near.left near.above))))
 
 goes_modes : (near : Near) (mb : MbRecord) → GoesOn (modes_string near mb)
 unfolding modes_string
@@ -141,7 +199,7 @@ goes_luma_cbp : (near : Near) (mb : MbRecord) → GoesOn (luma_cbp_string near m
 unfolding luma_cbp_string
 goes_luma_cbp near mb =
     let small = luma_cbp_inc mb near.left near.above in
-    goes_where (not (is_16x16 mb.kind)) _ (goes_luma_pattern (inc_of (luma_pattern_incs near mb)) mb.luma_cbp (λ xs. inc_small _ _ _ _ (small 0) (small 1) (small 2) (small 3) (length xs)))
+    goes_where (has_pattern mb.kind) _ (goes_luma_pattern (inc_of (luma_pattern_incs near mb)) mb.luma_cbp (λ xs. inc_small _ _ _ _ (small 0) (small 1) (small 2) (small 3) (length xs)))
 
 chroma_pattern_plain : (first second : ℕ) → first ≤ 3 → second ≤ 3 → (xs : List Bool) → Plain (chroma_pattern_at first second xs)
 chroma_pattern_plain first second h k [] = plain_below (77 + first) (omega arith)
@@ -154,7 +212,7 @@ goes_chroma_pattern first second pattern h k = goes_string (chroma_pattern_at fi
 goes_chroma_cbp : (near : Near) (mb : MbRecord) → GoesOn (chroma_cbp_string near mb)
 unfolding chroma_cbp_string
 goes_chroma_cbp near mb =
-    goes_where (not (is_16x16 mb.kind)) _ (goes_chroma_pattern (inc_chroma_cbp near.left near.above false) (inc_chroma_cbp near.left near.above true) mb.chroma_cbp (chroma_cbp_inc near.left near.above false) (chroma_cbp_inc near.left near.above true))
+    goes_where (has_pattern mb.kind) _ (goes_chroma_pattern (inc_chroma_cbp near.left near.above false) (inc_chroma_cbp near.left near.above true) mb.chroma_cbp (chroma_cbp_inc near.left near.above false) (chroma_cbp_inc near.left near.above true))
 
 delta_plain : (inc : ℕ) → inc ≤ 1 → (xs : List Bool) → Plain (delta_at inc xs)
 delta_plain inc h [] = plain_below (60 + inc) (omega arith)
@@ -212,6 +270,6 @@ pub macroblock_goes_on : (near : Near) (mb : MbRecord) → IsRecord near mb → 
 unfolding macroblock_string
 macroblock_goes_on near mb h =
     goes_on_append _ (chroma_ac_string near mb) (goes_on_append _ (chroma_dc_string near mb) (goes_on_append _ (luma_string near mb) (goes_on_append _ (luma_dc_string near mb) (goes_on_append _ (qp_string near mb)
-    (goes_on_append _ (chroma_cbp_string near mb) (goes_on_append _ (luma_cbp_string near mb) (goes_on_append _ (intra_chroma_string near mb) (goes_on_append _ (modes_string near mb)
-    (goes_on_append (mb_type_string near mb) (transform_string near mb) (goes_mb_type near mb h) (goes_transform near mb)) (goes_modes near mb)) (goes_intra_chroma near mb)) (goes_luma_cbp near mb)) (goes_chroma_cbp near mb))
+    (goes_on_append _ (inter_transform_string near mb) (goes_on_append _ (chroma_cbp_string near mb) (goes_on_append _ (luma_cbp_string near mb) (goes_on_append _ (intra_chroma_string near mb) (goes_on_append _ (modes_string near mb)
+    (goes_on_append (head_string near mb) (transform_string near mb) (goes_head near mb h) (goes_transform near mb)) (goes_modes near mb)) (goes_intra_chroma near mb)) (goes_luma_cbp near mb)) (goes_chroma_cbp near mb)) (goes_inter_transform near mb))
     (goes_qp near mb)) (goes_luma_dc near mb)) (goes_luma near mb)) (goes_chroma_dc near mb)) (goes_chroma_ac near mb)

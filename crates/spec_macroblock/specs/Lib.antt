@@ -1,5 +1,3 @@
-pub mod Near
-pub mod Parts
 pub mod Modes
 pub mod Macroblock
 pub mod Strings

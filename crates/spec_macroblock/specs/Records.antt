@@ -1,22 +1,24 @@
 -- Which records the syntax of a macroblock can give: values in their ranges, levels where the pattern says, and what isn't used as in a blank record (ITU-T H.264, clauses 7.4.5 and 7.4.5.1).
-use Rattle.std.specs.Prelude.{◌≡◌, ℕ, ◌+◌, ◌*◌, ◌/◌, ◌<◌, ◌≤◌, ◌==◌, Bool, true, false, cond, List, length, replicate, get_or, slice_range, Option, Some, None, ℤ, pos}
+use Rattle.std.specs.Prelude.{◌≡◌, ℕ, ◌+◌, ◌*◌, ◌/◌, ◌<◌, ◌≤◌, ◌==◌, Bool, true, false, cond, not, List, length, replicate, get_or, slice_range, Option, Some, None, ℤ, pos}
 use Rattle.enc_tables.specs.declared.records.MbKind.{MbKind}
 use Rattle.enc_tables.specs.declared.records.MbRecord.{MbRecord}
-use Rattle.enc_tables.specs.declared.records.SliceKind.{SliceKind}
-use Rattle.enc_tables.specs.Kinds.{is_16x16}
-use Rattle.enc_tables.specs.Records.{zero_vector, no_motion}
-use Rattle.spec_contexts.specs.Increments.{bit_of, some_level}
+use Rattle.enc_tables.specs.Kinds.{is_nxn, is_16x16, is_intra, is_skipped}
+use Rattle.enc_tables.specs.Records.{zero_vector}
+use Rattle.spec_contexts.specs.Increments.{bit_of, some_level, has_motion}
 use Rattle.spec_syntax.specs.Elements.{IsDelta}
 use Rattle.spec_syntax.specs.Blocks.{IsLevel}
-use Rattle.spec_macroblock.specs.Near.{Near, has_residual}
+use Rattle.spec_partitions.specs.Near.{Near, has_residual}
+use Rattle.spec_partitions.specs.Partitions.{shape_of, part_count, written_of, mvd_from}
+use Rattle.spec_partitions.specs.Records.{is_in, PartFits, MvdFits}
 use Rattle.spec_macroblock.specs.Strings.{difference}
 
--- the macroblocks of I slices that are read; 8x8 transforms belong to Intra 8x8 alone
-abbrev pub KindFits : Bool → MbKind → Bool → Type 0
-KindFits t8x8 MbKind.Intra4 transform8 = transform8 ≡ false
-KindFits t8x8 MbKind.Intra8 transform8 = (t8x8 ≡ true) × (transform8 ≡ true)
-KindFits t8x8 MbKind.Intra16 transform8 = transform8 ≡ false
-KindFits t8x8 _ transform8 = ⊥
+-- 8x8 transforms belong to Intra 8x8, and to inter macroblocks with luma levels
+abbrev pub TransformFits : Bool → MbKind → Bool → Bool → Type 0
+TransformFits t8x8 MbKind.Intra4 luma transform8 = transform8 ≡ false
+TransformFits t8x8 MbKind.Intra8 luma transform8 = (t8x8 ≡ true) × (transform8 ≡ true)
+TransformFits t8x8 MbKind.Intra16 luma transform8 = transform8 ≡ false
+TransformFits t8x8 MbKind.Pcm luma transform8 = transform8 ≡ false
+TransformFits t8x8 _ luma transform8 = transform8 ≡ true → (t8x8 ≡ true) × (luma ≡ true)
 
 -- intra modes are 0 to 8
 abbrev pub AreModes : List ℕ → Type 0
@@ -28,7 +30,7 @@ NearModes (Some n) = AreModes n.modes
 
 -- how many modes a macroblock has
 abbrev pub modes_used : MbRecord → ℕ
-modes_used mb = cond (is_16x16 mb.kind) 1 (cond mb.transform8 4 16)
+modes_used mb = cond (is_16x16 mb.kind) 1 (cond (is_nxn mb.kind) (cond mb.transform8 4 16) 0)
 
 -- an Intra 16x16 macroblock has modes 0 to 3, and its luma pattern is 0 or 15
 abbrev pub WholeFits : Bool → MbRecord → Type 0
@@ -47,8 +49,8 @@ abbrev pub AreLevels : List ℤ → Type 0
 AreLevels ls = (i : ℕ) → IsLevel (level_at ls i)
 
 pub record IsRecord (near : Near) (mb : MbRecord) : Type 0 where
-  pub in_slice : near.kind ≡ SliceKind.I
-  pub kind_fits : KindFits near.t8x8 mb.kind mb.transform8
+  pub in_slice : is_in near.kind mb.kind ≡ true
+  pub transform_fits : TransformFits near.t8x8 mb.kind (not (mb.luma_cbp == 0)) mb.transform8
   -- modes
   pub left_modes : NearModes near.left
   pub above_modes : NearModes near.above
@@ -57,12 +59,15 @@ pub record IsRecord (near : Near) (mb : MbRecord) : Type 0 where
   pub modes_blank : (i : ℕ) → modes_used mb ≤ i → get_or mb.modes i 0 ≡ 0
   pub whole_fits : WholeFits (is_16x16 mb.kind) mb
   pub chroma_mode_fits : mb.chroma_mode ≤ 3
-  -- there is no motion
-  pub motion_blank : mb.motion ≡ replicate 4 no_motion
-  pub mvd_blank : mb.mvd ≡ replicate 8 zero_vector
+  pub chroma_mode_blank : is_intra mb.kind ≡ false → mb.chroma_mode ≡ 0
+  -- what is written of partitions
+  pub parts_fit : has_motion mb.kind ≡ true → (part : ℕ) → part < part_count (shape_of mb.kind) → PartFits near mb part
+  pub mvds_fit : has_motion mb.kind ≡ true → (list : ℕ) → list < 2 → (part : ℕ) → part < part_count (shape_of mb.kind) → MvdFits mb list part
+  pub mvd_is : mb.mvd ≡ cond (has_motion mb.kind) (mvd_from mb.kind (written_of mb)) (replicate 8 zero_vector)
   -- pattern and QP
   pub luma_cbp_fits : mb.luma_cbp ≤ 15
   pub chroma_cbp_fits : mb.chroma_cbp ≤ 2
+  pub cbp_blank : is_skipped mb.kind ≡ true → (mb.luma_cbp ≡ 0) × (mb.chroma_cbp ≡ 0)
   pub qp_fits : QpFits (has_residual mb) near.qp mb.qp
   -- the DC levels of Intra 16x16
   pub dc_length : length mb.luma_dc ≡ 16

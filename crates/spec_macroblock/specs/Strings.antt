@@ -2,16 +2,18 @@
 use Rattle.std.specs.Prelude.{ℕ, ◌+◌, ◌*◌, ◌/◌, ◌%◌, ◌==◌, true, false, not, ◌&&◌, List, [], ◌∷◌, ◌++◌, get_or, slice_range, ℤ, pos, ◌-ℤ◌}
 use Rattle.enc_tables.specs.declared.records.MbRecord.{MbRecord}
 use Rattle.enc_tables.specs.declared.records.SliceKind.{SliceKind}
-use Rattle.enc_tables.specs.Kinds.{is_nxn, is_16x16, is_intra}
-use Rattle.spec_contexts.specs.Increments.{bit_of, inc_type_i, inc_type_b, inc_transform, inc_chroma_mode, inc_luma_cbp, inc_chroma_cbp, inc_qp_delta, inc_coded}
+use Rattle.enc_tables.specs.Kinds.{is_nxn, is_16x16, is_intra, is_skipped}
+use Rattle.enc_tables.specs.declared.records.MbKind.{MbKind}
+use Rattle.spec_contexts.specs.Increments.{bit_of, has_motion, inc_skip, inc_type_i, inc_type_b, inc_transform, inc_chroma_mode, inc_luma_cbp, inc_chroma_cbp, inc_qp_delta, inc_coded}
 use Rattle.spec_syntax.specs.declared.Bin.{Bin}
 use Rattle.spec_syntax.specs.Syntax.{flag_string}
 use Rattle.spec_syntax.specs.Sequences.{string_where}
 use Rattle.spec_syntax.specs.Elements.{chroma_mode_string, luma_pattern_string, inc_of, chroma_pattern_string, transform_flag, qp_delta_string}
-use Rattle.spec_syntax.specs.Inter.{type_string}
+use Rattle.spec_syntax.specs.Inter.{has_inter, skip_at, type_string}
 use Rattle.spec_syntax.specs.Blocks.{block_string, some_levels_string}
-use Rattle.spec_macroblock.specs.Near.{Near, has_residual}
-use Rattle.spec_macroblock.specs.Parts.{parts_string}
+use Rattle.spec_partitions.specs.Near.{Near, has_pattern, can_have_8x8, has_residual}
+use Rattle.spec_partitions.specs.Inter.{is_four, sub_types_string, inter_string}
+use Rattle.spec_partitions.specs.Parts.{parts_string}
 use Rattle.spec_macroblock.specs.Modes.{predicted, mode_count, mode_string}
 
 -- the increment of mb_type, which P slices don't use
@@ -22,6 +24,16 @@ inc_type SliceKind.B near = inc_type_b near.left near.above
 
 unfoldable pub mb_type_string : Near → MbRecord → List Bin
 mb_type_string near mb = type_string near.kind (inc_type near.kind near) mb
+
+-- behind the type come the partitions of inter macroblocks
+abbrev pub partitions_string : MbKind → Near → MbRecord → List Bin
+partitions_string kind near mb = string_where (is_four kind) (sub_types_string near.kind mb) ++ string_where (has_motion kind) (inter_string near mb)
+
+-- mb_skip_flag, and where it is 0 the type
+unfoldable pub head_string : Near → MbRecord → List Bin
+head_string near mb =
+    string_where (has_inter near.kind) (flag_string (skip_at near.kind (inc_skip near.left near.above)) (is_skipped mb.kind))
+    ++ string_where (not (is_skipped mb.kind)) (mb_type_string near mb ++ partitions_string mb.kind near mb)
 
 unfoldable pub transform_string : Near → MbRecord → List Bin
 transform_string near mb = string_where (near.t8x8 && is_nxn mb.kind) (flag_string (transform_flag (inc_transform near.left near.above)) mb.transform8)
@@ -42,11 +54,14 @@ luma_pattern_incs near mb =
     inc_luma_cbp mb near.left near.above 0 ∷ inc_luma_cbp mb near.left near.above 1 ∷ inc_luma_cbp mb near.left near.above 2 ∷ inc_luma_cbp mb near.left near.above 3 ∷ []
 
 unfoldable pub luma_cbp_string : Near → MbRecord → List Bin
-luma_cbp_string near mb = string_where (not (is_16x16 mb.kind)) (luma_pattern_string (inc_of (luma_pattern_incs near mb)) mb.luma_cbp)
+luma_cbp_string near mb = string_where (has_pattern mb.kind) (luma_pattern_string (inc_of (luma_pattern_incs near mb)) mb.luma_cbp)
 
 unfoldable pub chroma_cbp_string : Near → MbRecord → List Bin
 chroma_cbp_string near mb =
-    string_where (not (is_16x16 mb.kind)) (chroma_pattern_string (inc_chroma_cbp near.left near.above false) (inc_chroma_cbp near.left near.above true) mb.chroma_cbp)
+    string_where (has_pattern mb.kind) (chroma_pattern_string (inc_chroma_cbp near.left near.above false) (inc_chroma_cbp near.left near.above true) mb.chroma_cbp)
+
+unfoldable pub inter_transform_string : Near → MbRecord → List Bin
+inter_transform_string near mb = string_where (near.t8x8 && can_have_8x8 mb) (flag_string (transform_flag (inc_transform near.left near.above)) mb.transform8)
 
 -- mb_qp_delta
 abbrev pub difference : ℕ → ℕ → ℤ
@@ -95,5 +110,5 @@ chroma_ac_string near mb = parts_string (chroma_ac_part_string near mb) 8
 
 unfoldable pub macroblock_string : Near → MbRecord → List Bin
 macroblock_string near mb =
-    mb_type_string near mb ++ transform_string near mb ++ modes_string near mb ++ intra_chroma_string near mb ++ luma_cbp_string near mb ++ chroma_cbp_string near mb
-    ++ qp_string near mb ++ luma_dc_string near mb ++ luma_string near mb ++ chroma_dc_string near mb ++ chroma_ac_string near mb
+    head_string near mb ++ transform_string near mb ++ modes_string near mb ++ intra_chroma_string near mb ++ luma_cbp_string near mb ++ chroma_cbp_string near mb
+    ++ inter_transform_string near mb ++ qp_string near mb ++ luma_dc_string near mb ++ luma_string near mb ++ chroma_dc_string near mb ++ chroma_ac_string near mb

@@ -1,3 +1,8 @@
+use Rattle.std.proofs.Common.{sym, subst}
+use Rattle.spec_syntax.specs.Syntax.{Reads}
+use Rattle.spec_partitions.specs.Near.{Near}
+use Rattle.spec_macroblock.specs.Macroblock.{macroblock}
+use Rattle.spec_macroblock.specs.Records.{IsRecord}
 use Rattle.bin_writer.specs.Coding.{seen}
 use Rattle.bin_writer.proofs.Whole.{written}
 use Rattle.spec_macroblock.specs.Strings.{macroblock_string}
@@ -12,4 +17,5 @@ returns-clause-written c =
     c.code_mb.ensures c.outcome.ensures
 
 pub returns-clause-read_back : goal.returns-clause-read_back
-returns-clause-read_back c = reads_macroblock (near_of c.args.around.now c.args.mb.now) c.args.mb.now c.requires.record_
+returns-clause-read_back c = λ view e g.
+    subst (λ (n : Near). Reads (macroblock view) (macroblock_string n c.args.mb.now) c.args.mb.now) e (reads_macroblock view c.args.mb.now (subst (λ (n : Near). IsRecord n c.args.mb.now) (sym e) c.requires.record_) g)

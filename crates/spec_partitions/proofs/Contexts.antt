@@ -12,7 +12,7 @@ use Rattle.spec_syntax.specs.Levels.{coded_at, flags_from, place_in, significant
 use Rattle.spec_syntax.specs.Blocks.{none, nonzero, above_one, equal_one, significance_string, level_string, levels_string, block_string, some_levels_string}
 use Rattle.spec_slice.specs.Decoding.{is_terminate, GoesOn}
 use Rattle.spec_slice.proofs.Decoded.{goes_on_append}
-use Rattle.spec_macroblock.specs.Parts.{parts_string}
+use Rattle.spec_partitions.specs.Parts.{parts_string}
 
 -- a context that isn't that of termination
 abbrev pub Plain : ℕ → Type 0
@@ -69,7 +69,7 @@ goes_number (suc n) v = go (nat_lt v (2 ^ n)) (λ w. goes_number n w)
     go true ih = one_more 1000 false (number_string n v) refl (ih v)
     go false ih = one_more 1000 true (number_string n (v - 2 ^ n)) refl (ih (v - 2 ^ n))
 
-goes_golomb : (n k v : ℕ) → GoesOn (golomb_string n k v)
+pub goes_golomb : (n k v : ℕ) → GoesOn (golomb_string n k v)
 unfolding golomb_string
 goes_golomb zero k v = over
 goes_golomb (suc n) k v = go (nat_lt v (2 ^ k)) (λ w. goes_golomb n (suc k) w)

@@ -1,0 +1,10 @@
+pub mod Parts
+pub mod ByPart
+pub mod Written
+pub mod Contexts
+pub mod InterGoesOn
+pub mod Coded
+pub mod InRange
+pub mod Small
+pub mod SmallVectors
+pub mod Available
