@@ -1,277 +1,286 @@
--- What a decoder shows of a stream of IDR pictures.
-use Rattle.std.proofs.Common.{ℕ, ◌+◌, ◌*◌, ◌≡◌, ◌≤◌, ◌<◌, List, [], ◌∷◌, ◌++◌, map, Bool, true, false, cond, Option, Some, None, refl, ap, ap₂, sym, ◌∙◌, arith, append_assoc, append-nil, lit<, mul-pos}
-use Rattle.std.specs.Prelude.{nat_lt, ◌==◌, option_and_then}
-use Rattle.std.specs.Option.{option_map}
-use Rattle.std.specs.List.{flat_map, All}
+-- What a decoder shows of a stream of pictures that are coded one after another.
+use Rattle.std.proofs.Common.{ℕ, zero, suc, ◌+◌, ◌-◌, ◌*◌, ◌≡◌, ◌≤◌, ◌<◌, max, List, [], ◌∷◌, ◌++◌, map, length, Bool, true, false, cond, Some, None, refl, ap, ap₂, sym, subst, ◌∙◌, arith, le_refl, append_assoc, append-nil, Option}
+use Rattle.std.specs.Prelude.{nat_lt, ◌==◌, ◌&&◌, ◌%◌, option_and_then, nat_eq, not}
+use Rattle.std.specs.List.{AllByRecursion, list_all, IsDistinct}
 use Rattle.std.proofs.lemmas.Bool.Decides.{nat_tests}
-use Rattle.std.proofs.lemmas.List.{map-append}
-use Rattle.std.proofs.lemmas.List.Sums.{sum_by-append}
-use Rattle.std.proofs.lemmas.Grind.{flat_map-append}
-use Rattle.std.proofs.lemmas.List.Elements.{All-nil, All-cons}
+use Rattle.enc_tables.specs.declared.records.PlanStep.{PlanStep}
+use Rattle.enc_tables.specs.declared.records.SliceKind.{SliceKind}
+use Rattle.enc_tables.specs.declared.records.SliceKind.TheVariants.{I, P, B}
 use Rattle.spec_film.specs.Films.{Planes}
 use Rattle.spec_bits.specs.declared.heads.SeqHead.{SeqHead}
-use Rattle.spec_bits.specs.declared.heads.SliceHead.{SliceHead}
-use Rattle.spec_bits.specs.Fields.{fields_bits}
-use Rattle.spec_bits.specs.Heads.{sequence_fields, picture_fields, sequence_payload, picture_payload}
 use Rattle.spec_bits.specs.Allowed.{IsSeqHead}
-use Rattle.spec_bits.specs.Units.{Nal, IsNal, EndsWell, written, units_of}
-use Rattle.spec_bits.proofs.UnitLaws.{units_are_read_back}
-use Rattle.spec_reading.specs.HeadReaders.{sequence, picture}
-use Rattle.spec_reading.proofs.HeadLaws.{reads_sequence, reads_picture}
-use Rattle.spec_stream.specs.Decode.{read_set, placed, pictures_in, across_of, down_of}
-use Rattle.spec_stream.proofs.DecodeLaws.{read_set-back}
-use Rattle.spec_stream.proofs.Ends.{ends_in_trail}
-use Rattle.spec_pictures.specs.Decode.{Reading, Decoder, start, counted, shown, joined, slice_step, with_slice, step, steps, all_shown, all_read, behind, decode_by, read_by}
-use Rattle.spec_pictures.specs.Coded.{CodedSlice, slices_in, slice_units, picture_units, stream_of, IsCodedSlice, Covers, AllCover, shown_of, slices_of_each}
+use Rattle.spec_bits.specs.Units.{Nal}
+use Rattle.spec_stream.specs.Decode.{placed, pictures_in}
+use Rattle.spec_lists.specs.References.{Reference, kept, slid}
+use Rattle.spec_lists.specs.Heads.{is_referred, is_numbered, newest_number, idr_id_of, is_other}
+use Rattle.spec_pictures.specs.Decode.{Reading, Decoder, start, made, shown_planes, held_behind, shown, steps, all_shown, all_read, behind, decode_by, read_by, may_follow}
+use Rattle.spec_pictures.specs.Coded.{slices_in}
+use Rattle.spec_pictures.specs.Accesses.{Access, set_nals, slice_nals, access_nals, accesses_bytes, Covers, IsAccess, picture_of, held_after, AllCoded, IsPlaced, base_after, next_after, Follows, shown_from, pictures_shown, slices_of_accesses, id_in, AreOthers, places_of}
+use Rattle.spec_pictures.proofs.Order.{unshift, AtMost, AtLeast, Below, placed-append, placed_last, placed_shift, all_placed, all_weaker, pictures_shift, pictures-append, IsNew, AreNew, still_new, new_behind, none_equal}
+use Rattle.spec_pictures.proofs.Units.{all_units, units_are}
+use Rattle.spec_pictures.proofs.Steps.{steps-append, idle, with_sets, sets_read, all_passed, amid, slices_read, id_by_lead}
 
--- ---- parameter sets
+-- ---- one picture
 
-sequence_back : (s : SeqHead) → IsSeqHead s → s.level < 256 → s.timing ≡ None → read_set sequence (sequence_payload s) ≡ Some s
-unfolding sequence_payload
-sequence_back s is level timing = read_set-back sequence (fields_bits (sequence_fields s)) s (reads_sequence s is level timing)
+-- a decoder behind the parameter sets of a picture, where it has any
+ready : {S : Type 0} → SeqHead → Bool × Bool → Bool → Decoder S → Decoder S
+ready s flags idr d = record d { sequence_set = Some s; picture_set = Some flags; sets_before = idr; held = kept idr d.held; begun = [] }
 
-picture_set_back : (flags : Bool × Bool) → read_set picture (picture_payload flags.0 flags.1) ≡ Some flags
-unfolding picture_payload
-picture_set_back flags = read_set-back picture (fields_bits (picture_fields flags.0 flags.1)) flags (reads_picture flags.0 flags.1)
+-- the parameter sets were read, or they stand before the IDR picture
+abbrev HasSets : {S : Type 0} → SeqHead → Bool × Bool → Decoder S → Type 0
+HasSets s flags d = (d.sequence_set ≡ Some s) × (d.picture_set ≡ Some flags) × (d.sets_before ≡ false)
 
--- ---- steps of the decoder
+is_ready : {S : Type 0} (r : Reading S) (s : SeqHead) (flags : Bool × Bool) (idr : Bool) (d : Decoder S) → IsSeqHead s → s.level < 256 → d.begun ≡ [] → (idr ≡ false → HasSets s flags d)
+    → steps r (Some d) (set_nals s flags idr) ≡ Some (ready s flags idr d)
+unfolding steps ready idle with_sets
+is_ready r s flags true d is level none has =
+    ap (λ b. steps r (Some (record d { begun = b })) (set_nals s flags true)) none ∙ sets_read r s flags d is level
+is_ready r s flags false d is level none has =
+    ap (λ b. Some (record d { begun = b })) none ∙ ap₂ (λ a b. Some (record (idle d) { sequence_set = a; picture_set = b })) (has refl).0 (has refl).1
+    ∙ ap (λ c. Some (record (idle d) { sequence_set = Some s; picture_set = Some flags; sets_before = c })) (has refl).2
 
-state : {S : Type 0} → Option SeqHead → Option (Bool × Bool) → List S → List (ℕ × Planes) → List Planes → List (List S) → Decoder S
-state s flags begun period out read = record { sequence_set = s; picture_set = flags; begun = begun; period = period; out = out; read = read }
+kept_twice : (idr : Bool) (held : List Reference) → kept idr (kept idr held) ≡ kept idr held
+kept_twice true held = refl
+kept_twice false held = refl
 
-sequence_unit : SeqHead → Nal
-sequence_unit s = record { ref_idc = 3; kind = 7; payload = sequence_payload s }
+numbered_still : (idr : Bool) (frame_num poc : ℕ) (held : List Reference) → is_numbered idr frame_num poc held ≡ true → is_numbered idr frame_num poc (kept idr held) ≡ true
+numbered_still true frame_num poc held e = e
+numbered_still false frame_num poc held e = e
 
-picture_unit : Bool × Bool → Nal
-picture_unit flags = record { ref_idc = 3; kind = 8; payload = picture_payload flags.0 flags.1 }
+-- the parameter sets of an IDR picture don't stand in its way
+follows_still : {S : Type 0} (s : SeqHead) (flags : Bool × Bool) (d : Decoder S) (idr : Bool) (idr_id poc : ℕ) → may_follow (record d { sets_before = false }) idr idr_id poc ≡ true → may_follow (ready s flags idr d) idr idr_id poc ≡ true
+unfolding ready
+follows_still s flags d true idr_id poc e = e
+follows_still s flags d false idr_id poc e = e
 
-slice_unit : {S : Type 0} → CodedSlice S → Nal
-slice_unit c = record { ref_idc = 3; kind = 5; payload = c.payload }
+-- what the decoder is behind a picture
+after : {S : Type 0} → Reading S → SeqHead → Bool × Bool → PlanStep → ℕ → List S → Decoder S → Decoder S
+after r s flags st idr_id slices d = shown r s (is_referred st.kind) st.idr idr_id st.frame_num st.poc slices (ready s flags st.idr d)
 
-step_sequence : {S : Type 0} (r : Reading S) (s : SeqHead) (old : Option SeqHead) (flags : Option (Bool × Bool)) (period : List (ℕ × Planes)) (out : List Planes) (read : List (List S)) → IsSeqHead s → s.level < 256 → s.timing ≡ None
-    → step r (state old flags [] period out read) (sequence_unit s) ≡ Some (state (Some s) flags [] period out read)
-unfolding step state sequence_unit
-step_sequence r s old flags period out read is level timing = ap (λ o. option_map (λ t. record (state old flags [] period out read) { sequence_set = Some t }) o) (sequence_back s is level timing)
+access_read : {S : Type 0} (r : Reading S) (s : SeqHead) (flags : Bool × Bool) (d : Decoder S) (a : Access S)
+    → IsSeqHead s → s.level < 256 → d.begun ≡ [] → (a.step.idr ≡ false → HasSets s flags d)
+    → is_numbered a.step.idr a.step.frame_num a.step.poc d.held ≡ true
+    → (coded : IsAccess r s flags (kept a.step.idr d.held) a) → may_follow (record d { sets_before = false }) a.step.idr coded.lead.idr_id a.step.poc ≡ true
+    → steps r (Some d) (access_nals s flags a) ≡ Some (after r s flags a.step coded.lead.idr_id (slices_in a.slices) d)
+unfolding access_nals after ready amid shown idle
+access_read r s flags d a is level none has number coded next =
+    let st : PlanStep = a.step in
+    let e : Decoder _ = ready s flags st.idr d in
+    let slices : List Nal = slice_nals st a.slices in
+    let covers : Covers r s flags (kept st.idr (kept st.idr d.held)) coded.lead st 0 a.slices = subst (λ h. Covers r s flags h coded.lead st 0 a.slices) (sym (kept_twice st.idr d.held)) coded.covers in
+    steps-append r (Some d) (set_nals s flags st.idr) (a.before ++ (slices ++ a.behind))
+    ∙ ap (λ o. steps r o (a.before ++ (slices ++ a.behind))) (is_ready r s flags st.idr d is level none has)
+    ∙ steps-append r (Some e) a.before (slices ++ a.behind)
+    ∙ ap (λ o. steps r o (slices ++ a.behind)) (all_passed r e a.before coded.before)
+    ∙ steps-append r (Some e) slices a.behind
+    ∙ ap (λ o. steps r o a.behind) (slices_read r s flags e coded.lead st a.slices is (numbered_still st.idr st.frame_num st.poc d.held number) (follows_still s flags d st.idr coded.lead.idr_id st.poc next) covers)
+    ∙ all_passed r (after r s flags st coded.lead.idr_id (slices_in a.slices) d) a.behind coded.behind
 
-step_picture : {S : Type 0} (r : Reading S) (flags : Bool × Bool) (s : Option SeqHead) (old : Option (Bool × Bool)) (period : List (ℕ × Planes)) (out : List Planes) (read : List (List S))
-    → step r (state s old [] period out read) (picture_unit flags) ≡ Some (state s (Some flags) [] period out read)
-unfolding step state picture_unit
-step_picture r flags s old period out read = ap (λ o. option_map (λ f. record (state s old [] period out read) { picture_set = Some f }) o) (picture_set_back flags)
+-- ---- the decoder's state is tied to what was coded, and to the pictures so far by their places in display order
 
--- an IDR picture is whole
-shown_idr : {S : Type 0} (r : Reading S) (s : SeqHead) (h : SliceHead) (slices : List S) (d : Decoder S) → h.idr ≡ true → h.poc ≡ 0
-    → shown r s h slices d ≡ state d.sequence_set d.picture_set [] ((0, r.picture s slices) ∷ []) (d.out ++ pictures_in d.period) (d.read ++ slices ∷ [])
-unfolding shown placed state
-shown_idr r s h slices d idr poc =
-    ap₂ (λ (i : Bool) (n : ℕ). state d.sequence_set d.picture_set [] (placed (n, r.picture s slices) (cond i [] d.period)) (cond i (d.out ++ pictures_in d.period) d.out) (d.read ++ slices ∷ [])) idr poc
+record Tied {S : Type 0} (s : SeqHead) (flags : Bool × Bool) (begun : Bool) (base top next : ℕ) (last : Option ℕ) (d : Decoder S) (held : List Reference) (sh : List (ℕ × Planes)) (rd : List (List S)) : Type 0 where
+  pub read : d.read ≡ rd
+  pub no_sets : d.sets_before ≡ false
+  pub last_is : d.idr_before ≡ last
+  pub held_are : d.held ≡ held
+  pub none : d.begun ≡ []
+  pub sets : begun ≡ true → HasSets s flags d
+  pub number : begun ≡ true → newest_number held + 1 ≡ next
+  pub early : List (ℕ × Planes)
+  pub late : List (ℕ × Planes)
+  pub split : sh ≡ early ++ late
+  pub out : d.out ≡ pictures_in early
+  pub period : d.period ≡ map (unshift base) late
+  pub early_low : AllByRecursion (AtMost base) early
+  pub late_high : AllByRecursion (AtLeast base) late
+  pub below : AllByRecursion (Below top) sh
 
--- how many macroblocks one slice more has
-counted_more : {S : Type 0} (r : Reading S) (begun : List S) (c : S) → counted r (begun ++ c ∷ []) ≡ counted r begun + r.count c
-counted_more r begun c = sum_by-append r.count begun (c ∷ []) ∙ ap (λ n. counted r begun + n) (alone (r.count c))
+slid_newest : (places : ℕ) (new : Reference) (held : List Reference) → 1 ≤ places → newest_number (slid places new held) ≡ new.frame_num
+unfolding slid
+slid_newest zero new held h = absurd (omega (arith, h))
+slid_newest (suc n) new held h = refl
+
+number_after : {S : Type 0} (r : Reading S) (s : SeqHead) (begun : Bool) (base top next display : ℕ) (kind : SliceKind) (idr : Bool) (frame_num poc : ℕ) (held : List Reference) (new : Reference) → 1 ≤ s.refs → new.frame_num ≡ frame_num
+    → IsPlaced idr begun base top next (record { display = display; kind = kind; idr = idr; frame_num = frame_num; poc = poc }) → (begun ≡ true → newest_number held + 1 ≡ next)
+    → newest_number (held_behind s (is_referred kind) new (kept idr held)) + 1 ≡ next_after idr (is_referred kind) next
+number_after r s begun base top next display kind true frame_num poc held new some e place number =
+    ap (λ k. newest_number (held_behind s (is_referred k) new []) + 1) place.3
+    ∙ (let n = slid_newest s.refs new [] some in let z = place.2 in omega (arith, n, z, e))
+number_after r s begun base top next display I false frame_num poc held new some e place number =
+    let n = slid_newest s.refs new held some in let z = place.4 in omega (arith, n, z, e)
+number_after r s begun base top next display P false frame_num poc held new some e place number =
+    let n = slid_newest s.refs new held some in let z = place.4 in omega (arith, n, z, e)
+number_after r s begun base top next display B false frame_num poc held new some e place number = number place.0
+
+-- the step keeps the tie
+tied_on : {S : Type 0} (r : Reading S) (s : SeqHead) (flags : Bool × Bool) (begun : Bool) (base top next : ℕ) (last : Option ℕ) (d : Decoder S) (held : List Reference) (sh : List (ℕ × Planes)) (rd : List (List S))
+    (display : ℕ) (kind : SliceKind) (idr : Bool) (idr_id frame_num poc : ℕ) (slices : List S)
+    → 1 ≤ s.refs → Tied s flags begun base top next last d held sh rd
+    → (let st : PlanStep = record { display = display; kind = kind; idr = idr; frame_num = frame_num; poc = poc } in
+    let new : Reference = made r s frame_num poc (kept idr held) slices in
+    IsPlaced idr begun base top next st
+    → Tied s flags true (base_after idr base display) (max top (display + 1)) (next_after idr (is_referred kind) next) (idr_id_of idr idr_id) (after r s flags st idr_id slices d) (held_behind s (is_referred kind) new (kept idr held)) (placed (display, shown_planes s new.planes) sh) (rd ++ slices ∷ []))
+unfolding after ready shown made placed
+tied_on r s flags begun base top next last d held sh rd display kind true idr_id frame_num poc slices some t h =
+    let new : Reference = made r s frame_num poc [] slices in
+    let key : ℕ × Planes = (display, shown_planes s new.planes) in
+    let low : AllByRecursion (AtMost display) sh = all_weaker (Below top) (AtMost display) sh (λ x k. omega (arith, h.0)) t.below in
+    let sorted : placed key sh ≡ sh ++ key ∷ [] = placed_last key sh low in
+    let below : AllByRecursion (Below (max top (display + 1))) sh = all_weaker (Below top) (Below (max top (display + 1))) sh (λ x k. omega arith) t.below in
+    let own : display < max top (display + 1) = omega arith in
+    let zeroed : poc ≡ 2 * (display - display) = omega (arith, h.1) in
+    let gone : d.out ++ pictures_in d.period ≡ pictures_in sh =
+    ap₂ (λ (xs ys : List Planes). xs ++ ys) t.out (ap (λ ps. pictures_in ps) t.period ∙ pictures_shift base t.late) ∙ sym (pictures-append t.early t.late) ∙ ap (λ ps. pictures_in ps) (sym t.split) in
+    record {
+      read = ap (λ (rs : List (List _)). rs ++ slices ∷ []) t.read;
+      held_are = refl;
+      no_sets = refl;
+      last_is = refl;
+      none = refl;
+      sets = λ _. (refl, refl, refl);
+      number = λ _. number_after r s begun base top next display kind true frame_num poc held new some refl h t.number;
+      early = sh;
+      late = key ∷ [];
+      split = sorted;
+      out = gone;
+      period = ap (λ (n : ℕ). let e : ℕ × Planes = (n, shown_planes s new.planes) in e ∷ []) zeroed;
+      early_low = low;
+      late_high = (le_refl display, tt);
+      below = all_placed (Below (max top (display + 1))) key sh own below;
+    }
+tied_on r s flags begun base top next last d held sh rd display kind false idr_id frame_num poc slices some t h =
+    let new : Reference = made r s frame_num poc held slices in
+    let same : made r s frame_num poc d.held slices ≡ new = ap (λ hs. made r s frame_num poc hs slices) t.held_are in
+    let key : ℕ × Planes = (display, shown_planes s new.planes) in
+    let low : AllByRecursion (AtMost display) t.early = all_weaker (AtMost base) (AtMost display) t.early (λ x k. omega (arith, h.1)) t.early_low in
+    let below : AllByRecursion (Below (max top (display + 1))) sh = all_weaker (Below top) (Below (max top (display + 1))) sh (λ x k. omega arith) t.below in
+    let own : display < max top (display + 1) = omega arith in
+    record {
+      read = ap (λ (rs : List (List _)). rs ++ slices ∷ []) t.read;
+      held_are = ap (λ (hs : List Reference). held_behind s (is_referred kind) (made r s frame_num poc hs slices) hs) t.held_are;
+      no_sets = refl;
+      last_is = refl;
+      none = refl;
+      sets = λ _. (refl, refl, refl);
+      number = λ _. number_after r s begun base top next display kind false frame_num poc held new some refl h t.number;
+      early = t.early;
+      late = placed key t.late;
+      split = ap (λ ps. placed key ps) t.split ∙ placed-append key t.early t.late low;
+      out = t.out;
+      period = ap₂ (λ (n : ℕ) (q : Reference). placed (n, shown_planes s q.planes) d.period) h.2 same ∙ ap (λ ps. placed (unshift base key) ps) t.period ∙ placed_shift base key t.late h.1 t.late_high;
+      early_low = t.early_low;
+      late_high = all_placed (AtLeast base) key t.late h.1 t.late_high;
+      below = all_placed (Below (max top (display + 1))) key sh own below;
+    }
+
+-- what the numbers of a step are
+is_so_numbered : (begun : Bool) (base top next : ℕ) (st : PlanStep) (idr : Bool) (held : List Reference) → IsPlaced idr begun base top next st → (begun ≡ true → newest_number held + 1 ≡ next) → is_numbered idr st.frame_num st.poc held ≡ true
+is_so_numbered begun base top next st true held h number = rw (h.1, h.2) refl
+is_so_numbered begun base top next st false held h number =
+    both (st.frame_num == (newest_number held + 1) % 65536) (nat_lt st.poc 32768) (by st.frame_num (newest_number held + 1) next h.4 (number h.0) h.5) (less st.poc h.3)
   where
-    alone : (n : ℕ) → 0 + n ≡ n
-    alone n = omega arith
+    both : (p q : Bool) → p ≡ true → q ≡ true → (p && q) ≡ true
+    both p q h k = rw (h, k) refl
 
--- the slices behind so many macroblocks end where the picture does
-covers_most : {S : Type 0} (r : Reading S) (s : SeqHead) (flags : Bool × Bool) (before : ℕ) (cs : List (CodedSlice S)) → Covers r s flags before cs → before ≤ across_of s * down_of s
-covers_most r s flags before [] c = omega (arith, c)
-covers_most r s flags before (x ∷ cs) c = omega (arith, covers_most r s flags (before + r.count x.slice) cs c.1)
+    by : (f n next : ℕ) → f ≡ next → n ≡ next → next < 65536 → (f == n % 65536) ≡ true
+    by f n next e g small = grind (arith, nat_tests)
 
--- a slice, and what the decoder is after it
-step_slice : {S : Type 0} (r : Reading S) (s : SeqHead) (flags : Bool × Bool) (begun : List S) (before : ℕ) (period : List (ℕ × Planes)) (out : List Planes) (read : List (List S)) (c : CodedSlice S)
-    → IsCodedSlice r s flags before c → counted r begun ≡ before
-    → step r (state (Some s) (Some flags) begun period out read) (slice_unit c) ≡ joined r s (r.head c.slice) (begun ++ c.slice ∷ []) (state (Some s) (Some flags) begun period out read)
-unfolding step with_slice slice_step state slice_unit
-step_slice r s flags begun before period out read c is counts =
-    ap (λ o. option_and_then (slice_step r s (state (Some s) (Some flags) begun period out read)) o) is.reads
-    ∙ ap (λ b. cond b (joined r s (r.head c.slice) (begun ++ c.slice ∷ []) (state (Some s) (Some flags) begun period out read)) None) (same (r.head c.slice).first_mb (counted r begun) (is.first ∙ sym counts))
-  where
-    same : (a b : ℕ) → a ≡ b → (a == b) ≡ true
-    same a b e = grind (arith, nat_tests)
+    less : (n : ℕ) → n < 32768 → nat_lt n 32768 ≡ true
+    less n h = grind (arith, nat_tests)
 
-joined_part : {S : Type 0} (r : Reading S) (s : SeqHead) (h : SliceHead) (slices : List S) (d : Decoder S) → counted r slices < across_of s * down_of s → joined r s h slices d ≡ Some (record d { begun = slices })
-unfolding joined
-joined_part r s h slices d fewer =
-    ap (λ b. cond b (Some (record d { begun = slices })) (cond (counted r slices == across_of s * down_of s) (Some (shown r s h slices d)) None)) (less (counted r slices) (across_of s * down_of s) fewer)
-  where
-    less : (a b : ℕ) → a < b → nat_lt a b ≡ true
-    less a b e = grind (arith, nat_tests)
+-- the step may follow those before it
+may_go : {S : Type 0} (s : SeqHead) (flags : Bool × Bool) (begun : Bool) (base top next : ℕ) (last : Option ℕ) (d : Decoder S) (held : List Reference) (sh : List (ℕ × Planes)) (rd : List (List S)) → Tied s flags begun base top next last d held sh rd
+    → (idr : Bool) (idr_id : ℕ) (st : PlanStep) (own : Option ℕ) → IsPlaced idr begun base top next st → IsNew st.display sh → own ≡ idr_id_of idr idr_id → is_other own last ≡ true → may_follow (record d { sets_before = false }) idr idr_id st.poc ≡ true
+may_go s flags begun base top next last d held sh rd t true idr_id st own h new e other = ap₂ (λ a b. is_other a b) (sym e) t.last_is ∙ other
+may_go s flags begun base top next last d held sh rd t false idr_id st own h new e other =
+    ap₂ (λ (ps : List (ℕ × Planes)) (n : ℕ). list_all (λ p. not (p.0 == n)) ps) t.period h.2
+    ∙ none_equal base st.display t.late h.1 t.late_high (new_behind st.display t.early t.late (subst (λ xs. IsNew st.display xs) t.split new))
 
-joined_whole : {S : Type 0} (r : Reading S) (s : SeqHead) (h : SliceHead) (slices : List S) (d : Decoder S) → counted r slices ≡ across_of s * down_of s → joined r s h slices d ≡ Some (shown r s h slices d)
-unfolding joined
-joined_whole r s h slices d all =
-    ap₂ (λ a b. cond a (Some (record d { begun = slices })) (cond b (Some (shown r s h slices d)) None)) (not_less (counted r slices) (across_of s * down_of s) all) (same (counted r slices) (across_of s * down_of s) all)
-  where
-    not_less : (a b : ℕ) → a ≡ b → nat_lt a b ≡ false
-    not_less a b e = grind (arith, nat_tests)
-
-    same : (a b : ℕ) → a ≡ b → (a == b) ≡ true
-    same a b e = grind (arith, nat_tests)
-
--- the slices of a picture, from the first of those that are left on
-steps_slices : {S : Type 0} (r : Reading S) (s : SeqHead) (flags : Bool × Bool) (begun : List S) (before : ℕ) (period : List (ℕ × Planes)) (out : List Planes) (read : List (List S)) (c : CodedSlice S) (cs : List (CodedSlice S)) (rest : List Nal)
-    → counted r begun ≡ before → Covers r s flags before (c ∷ cs)
-    → steps r (Some (state (Some s) (Some flags) begun period out read)) (map slice_unit (c ∷ cs) ++ rest)
-    ≡ steps r (Some (state (Some s) (Some flags) [] ((0, r.picture s (begun ++ slices_in (c ∷ cs))) ∷ []) (out ++ pictures_in period) (read ++ (begun ++ slices_in (c ∷ cs)) ∷ []))) rest
-unfolding steps state
-steps_slices r s flags begun before period out read c [] rest counts covers =
-    ap (λ o. steps r o rest)
-    (step_slice r s flags begun before period out read c covers.0 counts
-    ∙ joined_whole r s (r.head c.slice) (begun ++ c.slice ∷ []) (state (Some s) (Some flags) begun period out read) (counted_more r begun c.slice ∙ ap (λ n. n + r.count c.slice) counts ∙ covers.1)
-    ∙ ap (λ d. Some d) (shown_idr r s (r.head c.slice) (begun ++ c.slice ∷ []) (state (Some s) (Some flags) begun period out read) covers.0.idr covers.0.poc))
-steps_slices r s flags begun before period out read c (x ∷ cs) rest counts covers =
-    ap (λ o. steps r o (map slice_unit (x ∷ cs) ++ rest))
-    (step_slice r s flags begun before period out read c covers.0 counts
-    ∙ joined_part r s (r.head c.slice) (begun ++ c.slice ∷ []) (state (Some s) (Some flags) begun period out read) fewer)
-    ∙ steps_slices r s flags (begun ++ c.slice ∷ []) (before + r.count c.slice) period out read x cs rest (counted_more r begun c.slice ∙ ap (λ n. n + r.count c.slice) counts) covers.1
-    ∙ ap (λ slices. steps r (Some (state (Some s) (Some flags) [] (let e : ℕ × Planes = (0, r.picture s slices) in e ∷ []) (out ++ pictures_in period) (read ++ slices ∷ []))) rest) (append_assoc begun (c.slice ∷ []) (slices_in (x ∷ cs)))
-  where
-    fewer : counted r (begun ++ c.slice ∷ []) < across_of s * down_of s
-    fewer = omega (arith, counted_more r begun c.slice, counts, covers.1.0.some, covers_most r s flags (before + r.count c.slice + r.count x.slice) cs covers.1.1)
-
--- ---- the units of a stream
-
-nals : {S : Type 0} → SeqHead → Bool × Bool → List (List (CodedSlice S)) → List Nal
-nals s flags [] = []
-nals s flags (p ∷ ps) = sequence_unit s ∷ picture_unit flags ∷ (map slice_unit p ++ nals s flags ps)
-
-short : {S : Type 0} → CodedSlice S → Bool × Nal
-short c = (false, slice_unit c)
-
-units : {S : Type 0} → SeqHead → Bool × Bool → List (List (CodedSlice S)) → List (Bool × Nal)
-units s flags [] = []
-units s flags (p ∷ ps) = (true, sequence_unit s) ∷ (true, picture_unit flags) ∷ (map short p ++ units s flags ps)
-
-slices_written : {S : Type 0} (cs : List (CodedSlice S)) → slice_units cs ≡ flat_map written (map short cs)
-unfolding short slice_unit
-slices_written [] = refl
-slices_written (c ∷ cs) = ap (λ rest. written (short c) ++ rest) (slices_written cs)
-
-stream-units : {S : Type 0} (s : SeqHead) (flags : Bool × Bool) (ps : List (List (CodedSlice S))) → stream_of s flags ps ≡ flat_map written (units s flags ps)
-unfolding stream_of picture_units units sequence_unit picture_unit
-stream-units s flags [] = refl
-stream-units s flags (p ∷ ps) =
-    append_assoc a (b ++ slice_units p) (stream_of s flags ps)
-    ∙ ap (λ bytes. a ++ bytes) (append_assoc b (slice_units p) (stream_of s flags ps)
-    ∙ ap (λ bytes. b ++ bytes) (ap₂ (λ x y. x ++ y) (slices_written p) (stream-units s flags ps) ∙ sym (flat_map-append written (map short p) (units s flags ps))))
-  where
-    a : List ℕ
-    a = written (true, sequence_unit s)
-
-    b : List ℕ
-    b = written (true, picture_unit flags)
-
-nals_of_slices : {S : Type 0} (cs : List (CodedSlice S)) → map (λ u. u.1) (map short cs) ≡ map slice_unit cs
-unfolding short
-nals_of_slices [] = refl
-nals_of_slices (c ∷ cs) = ap (λ rest. slice_unit c ∷ rest) (nals_of_slices cs)
-
-units-nals : {S : Type 0} (s : SeqHead) (flags : Bool × Bool) (ps : List (List (CodedSlice S))) → map (λ u. u.1) (units s flags ps) ≡ nals s flags ps
-unfolding units nals
-units-nals s flags [] = refl
-units-nals s flags (p ∷ ps) =
-    ap (λ rest. sequence_unit s ∷ picture_unit flags ∷ rest)
-    (map-append (λ (u : Bool × Nal). u.1) (map short p) (units s flags ps) ∙ ap₂ (λ x y. x ++ y) (nals_of_slices p) (units-nals s flags ps))
-
-P : Bool × Nal → Type 0
-P u = IsNal u.1
-
-sequence_is_nal : (s : SeqHead) → P (true, sequence_unit s)
-unfolding P sequence_unit sequence_payload
-sequence_is_nal s = record { ref_idc = lit< tt; kind_from = lit< tt; kind_to = lit< tt; ends = ends_in_trail (fields_bits (sequence_fields s)) }
-
-picture_is_nal : (flags : Bool × Bool) → P (true, picture_unit flags)
-unfolding P picture_unit picture_payload
-picture_is_nal flags = record { ref_idc = lit< tt; kind_from = lit< tt; kind_to = lit< tt; ends = ends_in_trail (fields_bits (picture_fields flags.0 flags.1)) }
-
-slice_is_nal : {S : Type 0} (c : CodedSlice S) → EndsWell c.payload → P (short c)
-unfolding P short slice_unit
-slice_is_nal c ends = record { ref_idc = lit< tt; kind_from = lit< tt; kind_to = lit< tt; ends = ends }
-
-slices_are : {S : Type 0} (r : Reading S) (s : SeqHead) (flags : Bool × Bool) (before : ℕ) (cs : List (CodedSlice S)) (rest : List (Bool × Nal)) → Covers r s flags before cs → All P rest → All P (map short cs ++ rest)
-slices_are r s flags before [] rest covers are = are
-slices_are r s flags before (c ∷ cs) rest covers are =
-    All-cons P (short c) (map short cs ++ rest) (slice_is_nal c covers.0.ends) (slices_are r s flags (before + r.count c.slice) cs rest covers.1 are)
-
-units_are : {S : Type 0} (r : Reading S) (s : SeqHead) (flags : Bool × Bool) (ps : List (List (CodedSlice S))) → AllCover r s flags ps → All P (units s flags ps)
-unfolding units
-units_are r s flags [] cover = All-nil P
-units_are r s flags (p ∷ ps) cover =
-    All-cons P (true, sequence_unit s) ((true, picture_unit flags) ∷ (map short p ++ units s flags ps)) (sequence_is_nal s)
-    (All-cons P (true, picture_unit flags) (map short p ++ units s flags ps) (picture_is_nal flags)
-    (slices_are r s flags 0 p (units s flags ps) cover.0 (units_are r s flags ps cover.1)))
+begun_before : (idr begun : Bool) (base top next : ℕ) (st : PlanStep) → IsPlaced idr begun base top next st → idr ≡ false → begun ≡ true
+begun_before true begun base top next st h e = absurd cc
+begun_before false begun base top next st h e = h.0
 
 -- ---- all pictures
 
-some_macroblocks : (s : SeqHead) → IsSeqHead s → 0 < across_of s * down_of s
-some_macroblocks s is = mul-pos (omega (arith, is.width_from)) (omega (arith, is.height_from))
+-- where a decoder stands behind them, and what it has shown and read
+record Goes {S : Type 0} (r : Reading S) (s : SeqHead) (flags : Bool × Bool) (d : Decoder S) (held : List Reference) (sh : List (ℕ × Planes)) (rd : List (List S)) (accesses : List (Access S)) : Type 0 where
+  pub last : Decoder S
+  pub steps_are : steps r (Some d) (all_units s flags accesses) ≡ Some last
+  pub shows : all_shown last ≡ Some (pictures_in (shown_from r s held sh accesses))
+  pub reads : all_read last ≡ Some (rd ++ slices_of_accesses accesses)
 
-one : Planes → List (ℕ × Planes)
-one p = let e : ℕ × Planes = (0, p) in e ∷ []
+ended : {S : Type 0} (r : Reading S) (s : SeqHead) (flags : Bool × Bool) (begun : Bool) (base top next : ℕ) (last : Option ℕ) (d : Decoder S) (held : List Reference) (sh : List (ℕ × Planes)) (rd : List (List S)) → Tied s flags begun base top next last d held sh rd → Goes r s flags d held sh rd []
+unfolding shown_from all_units steps
+ended r s flags begun base top next last d held sh rd t = record {
+  last = d;
+  steps_are = refl;
+  shows =
+      ap (λ (c : Bool). cond ((length d.begun == 0) && not c) (Some (d.out ++ pictures_in d.period)) None) t.no_sets
+      ∙ ap₂ (λ (b : List _) (ps : List Planes). cond ((length b == 0) && true) (Some ps) None) t.none
+      (ap₂ (λ (xs ys : List Planes). xs ++ ys) t.out (ap (λ ps. pictures_in ps) t.period ∙ pictures_shift base t.late) ∙ sym (pictures-append t.early t.late) ∙ ap (λ ps. pictures_in ps) (sym t.split));
+  reads = ap (λ (c : Bool). cond ((length d.begun == 0) && not c) (Some d.read) None) t.no_sets ∙ ap₂ (λ (b : List _) (rs : List (List _)). cond ((length b == 0) && true) (Some rs) None) t.none (t.read ∙ sym (append-nil rd));
+}
 
--- a whole picture
-steps_picture : {S : Type 0} (r : Reading S) (s : SeqHead) (flags : Bool × Bool) (p : List (CodedSlice S)) (s0 : Option SeqHead) (f0 : Option (Bool × Bool)) (period : List (ℕ × Planes)) (out : List Planes) (read : List (List S)) (rest : List Nal)
-    → IsSeqHead s → s.level < 256 → s.timing ≡ None → Covers r s flags 0 p
-    → steps r (Some (state s0 f0 [] period out read)) (sequence_unit s ∷ picture_unit flags ∷ (map slice_unit p ++ rest))
-    ≡ steps r (Some (state (Some s) (Some flags) [] (one (r.picture s (slices_in p))) (out ++ pictures_in period) (read ++ slices_in p ∷ []))) rest
-unfolding steps one
-steps_picture r s flags [] s0 f0 period out read rest is level timing covers = absurd (omega (arith, some_macroblocks s is, covers))
-steps_picture r s flags (c ∷ cs) s0 f0 period out read rest is level timing covers =
-    ap (λ o. steps r o (picture_unit flags ∷ (map slice_unit (c ∷ cs) ++ rest))) (step_sequence r s s0 f0 period out read is level timing)
-    ∙ ap (λ o. steps r o (map slice_unit (c ∷ cs) ++ rest)) (step_picture r flags (Some s) f0 period out read)
-    ∙ steps_slices r s flags [] 0 period out read c cs rest refl covers
+by_rest : {S : Type 0} (r : Reading S) (s : SeqHead) (flags : Bool × Bool) (a : Access S) (rest : List (Access S)) (d : Decoder S) (held : List Reference) (sh : List (ℕ × Planes)) (rd : List (List S)) (now : Decoder S)
+    → steps r (Some d) (access_nals s flags a) ≡ Some now
+    → Goes r s flags now (held_after r s held a) (placed (a.step.display, shown_planes s (picture_of r s held a).planes) sh) (rd ++ slices_in a.slices ∷ []) rest
+    → Goes r s flags d held sh rd (a ∷ rest)
+unfolding shown_from all_units
+by_rest r s flags a rest d held sh rd now first g = record {
+  last = g.last;
+  steps_are = steps-append r (Some d) (access_nals s flags a) (all_units s flags rest) ∙ ap (λ o. steps r o (all_units s flags rest)) first ∙ g.steps_are;
+  shows = g.shows;
+  reads = g.reads ∙ ap (λ (rs : List (List _)). Some rs) (append_assoc rd (slices_in a.slices ∷ []) (slices_of_accesses rest));
+}
 
-none_more : (S : Type 0) (s : Option SeqHead) (flags : Option (Bool × Bool)) (period : List (ℕ × Planes)) (out : List Planes) (read : List (List S))
-    → all_shown (state {S = S} s flags [] period out read) ≡ Some ((out ++ pictures_in period) ++ [])
-unfolding state
-none_more S s flags period out read = ap (λ ps. Some ps) (sym (append-nil (out ++ pictures_in period)))
+go : {S : Type 0} (r : Reading S) (s : SeqHead) (flags : Bool × Bool) (accesses : List (Access S)) (begun : Bool) (base top next : ℕ) (last : Option ℕ) (d : Decoder S) (held : List Reference) (sh : List (ℕ × Planes)) (rd : List (List S))
+    → IsSeqHead s → s.level < 256 → Tied s flags begun base top next last d held sh rd → AllCoded r s flags held accesses → Follows begun base top next (map (λ a. a.step) accesses)
+    → IsDistinct nat_eq (places_of accesses) → AreNew sh (places_of accesses) → AreOthers r last (slices_of_accesses accesses) → Goes r s flags d held sh rd accesses
+unfolding held_after IsDistinct
+go r s flags [] begun base top next last d held sh rd is level t coded f distinct new others = ended r s flags begun base top next last d held sh rd t
+go r s flags (a ∷ rest) begun base top next last d held sh rd is level t coded f distinct new others =
+    let st : PlanStep = a.step in
+    let slices : List _ = slices_in a.slices in
+    let fits : IsAccess r s flags (kept st.idr d.held) a = subst (λ h. IsAccess r s flags (kept st.idr h) a) (sym t.held_are) coded.0 in
+    let idr_id : ℕ = fits.lead.idr_id in
+    let own : id_in r slices ≡ idr_id_of st.idr idr_id = id_by_lead r s flags (kept st.idr d.held) fits.lead st a.slices is fits.covers in
+    let now : Decoder _ = after r s flags st idr_id slices d in
+    let made_now : Reference = made r s st.frame_num st.poc (kept st.idr held) slices in
+    let still : Tied s flags true (base_after st.idr base st.display) (max top (st.display + 1)) (next_after st.idr (is_referred st.kind) next) (idr_id_of st.idr idr_id) now (held_behind s (is_referred st.kind) made_now (kept st.idr held)) (placed (st.display, shown_planes s made_now.planes) sh) (rd ++ slices ∷ []) =
+    tied_on r s flags begun base top next last d held sh rd st.display st.kind st.idr idr_id st.frame_num st.poc slices is.refs_from t f.0 in
+    let number : is_numbered st.idr st.frame_num st.poc d.held ≡ true = subst (λ h. is_numbered st.idr st.frame_num st.poc h ≡ true) (sym t.held_are) (is_so_numbered begun base top next st st.idr held f.0 t.number) in
+    let first : steps r (Some d) (access_nals s flags a) ≡ Some now = access_read r s flags d a is level t.none (λ e. t.sets (begun_before st.idr begun base top next st f.0 e)) number fits
+    (may_go s flags begun base top next last d held sh rd t st.idr idr_id st (id_in r slices) f.0 new.0 own others.0) in
+    by_rest r s flags a rest d held sh rd now first
+    (go r s flags rest true (base_after st.idr base st.display) (max top (st.display + 1)) (next_after st.idr (is_referred st.kind) next) (idr_id_of st.idr idr_id) now (held_behind s (is_referred st.kind) made_now (kept st.idr held)) (placed (st.display, shown_planes s made_now.planes) sh) (rd ++ slices ∷ []) is level still coded.1 f.1
+    distinct.1 (still_new (st.display, shown_planes s made_now.planes) sh (places_of rest) distinct.0 new.1) (subst (λ o. AreOthers r o (slices_of_accesses rest)) own others.1))
 
-none_more_read : (S : Type 0) (s : Option SeqHead) (flags : Option (Bool × Bool)) (period : List (ℕ × Planes)) (out : List Planes) (read : List (List S))
-    → all_read (state {S = S} s flags [] period out read) ≡ Some (read ++ [])
-unfolding state
-none_more_read S s flags period out read = ap (λ slices. Some slices) (sym (append-nil read))
+-- a decoder that has read nothing
+nothing_read : {S : Type 0} (s : SeqHead) (flags : Bool × Bool) → Tied {S = S} s flags false 0 0 0 None start [] [] []
+nothing_read s flags = record { read = refl; no_sets = refl; last_is = refl; held_are = refl; none = refl; sets = λ e. absurd cc; number = λ e. absurd cc; early = []; late = []; split = refl; out = refl; period = refl; early_low = tt; late_high = tt; below = tt }
 
--- from a decoder between pictures, the pictures follow those that it has
-steps_show : {S : Type 0} (r : Reading S) (s : SeqHead) (flags : Bool × Bool) (ps : List (List (CodedSlice S))) (s0 : Option SeqHead) (f0 : Option (Bool × Bool)) (period : List (ℕ × Planes)) (out : List Planes) (read : List (List S))
-    → IsSeqHead s → s.level < 256 → s.timing ≡ None → AllCover r s flags ps
-    → option_and_then all_shown (steps r (Some (state s0 f0 [] period out read)) (nals s flags ps)) ≡ Some ((out ++ pictures_in period) ++ shown_of r s ps)
-unfolding steps nals one
-steps_show {S = S} r s flags [] s0 f0 period out read is level timing cover = none_more S s0 f0 period out read
-steps_show r s flags (p ∷ ps) s0 f0 period out read is level timing cover =
-    ap (λ o. option_and_then all_shown o) (steps_picture r s flags p s0 f0 period out read (nals s flags ps) is level timing cover.0)
-    ∙ steps_show r s flags ps (Some s) (Some flags) (one (r.picture s (slices_in p))) (out ++ pictures_in period) (read ++ slices_in p ∷ []) is level timing cover.1
-    ∙ ap (λ qs. Some qs) (append_assoc (out ++ pictures_in period) (r.picture s (slices_in p) ∷ []) (shown_of r s ps))
+from_start : {S : Type 0} (r : Reading S) (s : SeqHead) (flags : Bool × Bool) (accesses : List (Access S)) → IsSeqHead s → s.level < 256 → AllCoded r s flags [] accesses → Follows false 0 0 0 (map (λ a. a.step) accesses) → IsDistinct nat_eq (places_of accesses) → AreOthers r None (slices_of_accesses accesses)
+    → Goes r s flags start [] [] [] accesses
+from_start r s flags accesses is level coded f distinct others =
+    go r s flags accesses false 0 0 0 None start [] [] [] is level (nothing_read s flags) coded f distinct (none_there (places_of accesses)) others
+  where
+    none_there : (ns : List ℕ) → AreNew [] ns
+    none_there [] = tt
+    none_there (n ∷ ns) = (tt, none_there ns)
 
--- and so do their slices
-steps_read : {S : Type 0} (r : Reading S) (s : SeqHead) (flags : Bool × Bool) (ps : List (List (CodedSlice S))) (s0 : Option SeqHead) (f0 : Option (Bool × Bool)) (period : List (ℕ × Planes)) (out : List Planes) (read : List (List S))
-    → IsSeqHead s → s.level < 256 → s.timing ≡ None → AllCover r s flags ps
-    → option_and_then all_read (steps r (Some (state s0 f0 [] period out read)) (nals s flags ps)) ≡ Some (read ++ slices_of_each ps)
-unfolding steps nals
-steps_read {S = S} r s flags [] s0 f0 period out read is level timing cover = none_more_read S s0 f0 period out read
-steps_read r s flags (p ∷ ps) s0 f0 period out read is level timing cover =
-    ap (λ o. option_and_then all_read o) (steps_picture r s flags p s0 f0 period out read (nals s flags ps) is level timing cover.0)
-    ∙ steps_read r s flags ps (Some s) (Some flags) (one (r.picture s (slices_in p))) (out ++ pictures_in period) (read ++ slices_in p ∷ []) is level timing cover.1
-    ∙ ap (λ slices. Some slices) (append_assoc read (slices_in p ∷ []) (slices_of_each ps))
+behind_is : {S : Type 0} (r : Reading S) (s : SeqHead) (flags : Bool × Bool) (accesses : List (Access S)) → AllCoded r s flags [] accesses → behind r (accesses_bytes s flags accesses) ≡ steps r (Some start) (all_units s flags accesses)
+behind_is r s flags accesses coded = ap (λ o. option_and_then (steps r (Some start)) o) (units_are r s flags [] accesses coded)
 
--- the units of a stream, one after another
-behind_is : {S : Type 0} (r : Reading S) (s : SeqHead) (flags : Bool × Bool) (ps : List (List (CodedSlice S))) → AllCover r s flags ps
-    → behind r (stream_of s flags ps) ≡ steps r (Some (state None None [] [] [] [])) (nals s flags ps)
-unfolding state P
-behind_is r s flags ps cover =
-    ap (λ bytes. option_and_then (steps r (Some start)) (units_of bytes)) (stream-units s flags ps)
-    ∙ ap (λ o. option_and_then (steps r (Some start)) o) (units_are_read_back (units s flags ps) (units_are r s flags ps cover))
-    ∙ ap (λ us. steps r (Some start) us) (units-nals s flags ps)
-
-pub streams_decode : {S : Type 0} (r : Reading S) (s : SeqHead) (flags : Bool × Bool) (ps : List (List (CodedSlice S))) → IsSeqHead s → s.level < 256 → s.timing ≡ None → AllCover r s flags ps
-    → decode_by r (stream_of s flags ps) ≡ Some (shown_of r s ps)
+pub streams_decode : {S : Type 0} (r : Reading S) (s : SeqHead) (flags : Bool × Bool) (accesses : List (Access S)) → IsSeqHead s → s.level < 256 → AllCoded r s flags [] accesses → Follows false 0 0 0 (map (λ a. a.step) accesses) → IsDistinct nat_eq (places_of accesses) → AreOthers r None (slices_of_accesses accesses)
+    → decode_by r (accesses_bytes s flags accesses) ≡ Some (pictures_shown r s accesses)
 unfolding decode_by
-streams_decode r s flags ps is level timing cover =
-    ap (λ o. option_and_then all_shown o) (behind_is r s flags ps cover)
-    ∙ steps_show r s flags ps None None [] [] [] is level timing cover
+streams_decode r s flags accesses is level coded f distinct others =
+    let g = from_start r s flags accesses is level coded f distinct others in
+    ap (λ o. option_and_then all_shown o) (behind_is r s flags accesses coded ∙ g.steps_are) ∙ g.shows
 
-pub streams_are_read : {S : Type 0} (r : Reading S) (s : SeqHead) (flags : Bool × Bool) (ps : List (List (CodedSlice S))) → IsSeqHead s → s.level < 256 → s.timing ≡ None → AllCover r s flags ps
-    → read_by r (stream_of s flags ps) ≡ Some (slices_of_each ps)
+pub streams_are_read : {S : Type 0} (r : Reading S) (s : SeqHead) (flags : Bool × Bool) (accesses : List (Access S)) → IsSeqHead s → s.level < 256 → AllCoded r s flags [] accesses → Follows false 0 0 0 (map (λ a. a.step) accesses) → IsDistinct nat_eq (places_of accesses) → AreOthers r None (slices_of_accesses accesses)
+    → read_by r (accesses_bytes s flags accesses) ≡ Some (slices_of_accesses accesses)
 unfolding read_by
-streams_are_read r s flags ps is level timing cover =
-    ap (λ o. option_and_then all_read o) (behind_is r s flags ps cover)
-    ∙ steps_read r s flags ps None None [] [] [] is level timing cover
+streams_are_read r s flags accesses is level coded f distinct others =
+    let g = from_start r s flags accesses is level coded f distinct others in
+    ap (λ o. option_and_then all_read o) (behind_is r s flags accesses coded ∙ g.steps_are) ∙ g.reads
