@@ -1,7 +1,8 @@
 -- Worked streams, from the bytes to the samples. Another encoder wrote them, and its samples are these; so are those of a further decoder.
-use Rattle.std.proofs.Common.{◌≡◌, ℕ, List, [], ◌∷◌, Some, refl}
+use Rattle.std.proofs.Common.{◌≡◌, ℕ, List, [], ◌∷◌, replicate, Some, refl}
 use Rattle.std.specs.Int.Count.{count_leading_zeros}
 use Rattle.spec_film.specs.Films.{Planes}
+use Rattle.spec_film.specs.Places.{sample_at}
 use Rattle.enc_tables.specs.Arithmetic.{after_lps, lps_range}
 use Rattle.enc_tables.specs.Records.{blank_record}
 use Rattle.enc_tables.specs.Steps as enc_tables_steps
@@ -9,12 +10,13 @@ use Rattle.spec_bits.specs.Bits.{bits_of_bytes, bytes_of_bits, digits}
 use Rattle.spec_bits.specs.Units.{parted, unescape, units_of}
 use Rattle.spec_built.specs.Chroma.{build_chroma, chroma_built, prediction_chroma}
 use Rattle.spec_built.specs.InOrder.{built_in_order}
+use Rattle.spec_built.specs.Inter.{predicted_by, luma_predicted, chroma_predicted, inter4, inter_luma_built, inter_chroma_built, inter_built}
 use Rattle.spec_built.specs.Luma.{build16, build4, build8, luma16_built, luma4_built, luma8_built, prediction16, prediction4, prediction8, unscanned}
 use Rattle.spec_built.specs.Parts.{block_rows, with_rows}
 use Rattle.spec_built.specs.Records.{intra_built, luma_built, macroblock_built}
 use Rattle.spec_built.specs.Residuals.{built4, built8, built_with_dc, coefficients4, coefficients8, constructed}
 use Rattle.spec_cabac.specs.Decoder.{decide, refill, take_bits}
-use Rattle.spec_contexts.specs.Increments.{inc_chroma_cbp, inc_chroma_mode, inc_coded, inc_luma_cbp, inc_transform, inc_type_i}
+use Rattle.spec_contexts.specs.Increments.{inc_chroma_cbp, inc_chroma_mode, inc_coded, inc_luma_cbp, inc_skip, inc_transform, inc_type_i}
 use Rattle.spec_contexts.specs.Near.{above_block4, left_block4}
 use Rattle.spec_contexts.specs.States.{pre_state, start_state, start_states}
 use Rattle.spec_decoding.specs.Frames.{decode, picture_made, samples_put, slice_made, slices_made}
@@ -33,13 +35,20 @@ use Rattle.spec_intra.specs.Near.{line_there, neighbours16, neighbours4, neighbo
 use Rattle.spec_intra.specs.Predictions.{edge4, edge8, from_edge, predicted16, predicted_chroma}
 use Rattle.spec_intra.specs.Slopes.{plane_at, slope, tilt}
 use Rattle.spec_intra.specs.Smoothing.{smoothed}
-use Rattle.spec_macroblock.specs.Macroblock.{macroblock, with_chroma_ac, with_chroma_dc, with_chroma_mode, with_chroma_pattern, with_luma, with_luma_dc, with_luma_pattern, with_modes, with_qp, with_transform, with_type}
+use Rattle.spec_partitions.specs.Derived.{skip_motion}
+use Rattle.spec_macroblock.specs.Macroblock.{macroblock, with_chroma_ac, with_chroma_dc, with_chroma_mode, with_chroma_pattern, with_inter_transform, with_luma, with_luma_dc, with_luma_pattern, with_modes, with_qp, with_transform, with_type}
 use Rattle.spec_macroblock.specs.Modes.{mode, predicted4, predicted8}
-use Rattle.spec_macroblock.specs.Near.{last_has_delta, last_qp, near_in}
-use Rattle.spec_macroblock.specs.Parts.{parts}
-use Rattle.spec_pictures.specs.Decode.{decode_by, joined, shown, slice_step, step, with_slice}
+use Rattle.spec_partitions.specs.Near.{last_has_delta, last_qp, near_in}
+use Rattle.spec_partitions.specs.Parts.{parts}
+use Rattle.spec_lists.specs.Heads.{common}
+use Rattle.spec_inter.specs.Chroma.{inter_chroma}
+use Rattle.spec_inter.specs.Luma.{firsts, inter_luma, seconds}
+use Rattle.spec_lists.specs.Colocated.{colocated_at}
+use Rattle.spec_lists.specs.Lists.{lists_of, nearer_first, nearest_first}
+use Rattle.spec_lists.specs.References.{slid}
+use Rattle.spec_pictures.specs.Decode.{made, decode_by, joined, shown, slice_step, step, with_slice}
 use Rattle.spec_pictures.specs.Decode as pictures_decode
-use Rattle.spec_reading.specs.HeadReaders.{cropping, idr_slice, picture, sequence}
+use Rattle.spec_reading.specs.HeadReaders.{cropping, idr_slice, modification, other_slice, picture, sequence}
 use Rattle.spec_reading.specs.Reader.{fixed, se, signed_at, u_behind, ue_behind}
 use Rattle.spec_reading.specs.Reader as reading_reader
 use Rattle.spec_residual.specs.Blocks.{listed}
@@ -47,6 +56,7 @@ use Rattle.spec_residual.specs.Inverse.{inverse4_of, inverse8_of}
 use Rattle.spec_residual.specs.Rescaled.{chroma_dc_rescaled, luma_dc_rescaled, rescaled, scaling}
 use Rattle.spec_slice.specs.Decoding.{decoded, decoded_from}
 use Rattle.spec_slice.specs.Slice.{slice_data}
+use Rattle.spec_slice_layer.specs.Allowed.{modes_allowed, all_allowed}
 use Rattle.spec_slice_layer.specs.Layer.{read_data, read_layer}
 use Rattle.spec_stream.specs.Decode.{placed, read_set}
 use Rattle.spec_stream.specs.Pcm.{pcm_macroblock, pcm_macroblocks, read_pcm_slice}
@@ -183,8 +193,16 @@ large_shown = record {
       ∷ 112 ∷ 112 ∷ 112 ∷ 112 ∷ 112 ∷ 112 ∷ 112 ∷ 112 ∷ [];
 }
 
-rows : (decode small_stream ≡ Some (small_shown ∷ [])) × (decode large_stream ≡ Some (large_shown ∷ []))
-unfolding small_stream small_shown large_stream large_shown count_leading_zeros
+-- 16 by 16 samples: a grey IDR picture, and a P picture whose macroblock is skipped
+skipped_stream : List ℕ
+skipped_stream =
+    0 ∷ 0 ∷ 0 ∷ 1 ∷ 103 ∷ 100 ∷ 0 ∷ 51 ∷ 172 ∷ 27 ∷ 26 ∷ 158 ∷ 64 ∷ 0 ∷ 0 ∷ 0 ∷ 1 ∷ 104 ∷ 238 ∷ 56 ∷ 176 ∷ 0 ∷ 0 ∷ 1 ∷ 101 ∷ 136 ∷ 128 ∷ 0 ∷ 64 ∷ 0 ∷ 2 ∷ 255 ∷ 254 ∷ 214 ∷ 223 ∷ 128 ∷ 0 ∷ 0 ∷ 0 ∷ 1 ∷ 65 ∷ 154 ∷ 0 ∷ 2 ∷ 0 ∷ 5 ∷ 159 ∷ 166 ∷ 128 ∷ []
+
+grey : Planes
+grey = record { luma = replicate 256 128; cb = replicate 64 128; cr = replicate 64 128 }
+
+rows : (decode small_stream ≡ Some (small_shown ∷ [])) × (decode large_stream ≡ Some (large_shown ∷ [])) × (decode skipped_stream ≡ Some (grey ∷ grey ∷ []))
+unfolding small_stream small_shown large_stream large_shown skipped_stream grey count_leading_zeros
     after_lps lps_range blank_record enc_tables_steps.steps bits_of_bytes bytes_of_bits digits parted unescape units_of build_chroma chroma_built
     prediction_chroma built_in_order build16 build4 build8 luma16_built luma4_built luma8_built prediction16 prediction4 prediction8 unscanned
     block_rows with_rows intra_built luma_built macroblock_built built4 built8 built_with_dc coefficients4 coefficients8 constructed decide refill
@@ -194,11 +212,12 @@ unfolding small_stream small_shown large_stream large_shown count_leading_zeros
     luma_horizontal luma_macroblock luma_vertical strengths vertical_strength chroma_filtered edges_of luma_filtered picture_filtered filter_qp
     is_alike is_coded rule_at strength line intra_block.block down_left down_right horizontal horizontal_down horizontal_up vertical vertical_left
     vertical_right chroma_beside chroma_means mean mean_of_sides line_there neighbours16 neighbours4 neighbours8 neighbours_chroma edge4 edge8
-    from_edge predicted16 predicted_chroma plane_at slope tilt smoothed macroblock with_chroma_ac with_chroma_dc with_chroma_mode with_chroma_pattern
+    from_edge predicted16 predicted_chroma plane_at slope tilt smoothed macroblock with_chroma_ac with_chroma_dc with_chroma_mode with_chroma_pattern with_inter_transform
     with_luma with_luma_dc with_luma_pattern with_modes with_qp with_transform with_type mode predicted4 predicted8 last_has_delta last_qp near_in
-    parts decode_by joined shown slice_step step with_slice pictures_decode.steps cropping idr_slice picture sequence fixed se signed_at u_behind
+    parts decode_by joined shown made lists_of slid common slice_step step with_slice pictures_decode.steps cropping idr_slice picture sequence fixed se signed_at u_behind
     ue_behind reading_reader.flag listed inverse4_of inverse8_of chroma_dc_rescaled luma_dc_rescaled rescaled scaling decoded decoded_from slice_data
-    read_data read_layer placed read_set pcm_macroblock pcm_macroblocks read_pcm_slice cropped_plane above_one equal_one levels significance
+    read_data modes_allowed all_allowed read_layer placed read_set pcm_macroblock pcm_macroblocks read_pcm_slice cropped_plane above_one equal_one levels significance
     some_levels syntax_blocks.block chroma_mode chroma_pattern intra_type luma_pattern mode_rem qp_delta coded_at first_at last_at minus1 others_at
-    significant_at golomb number ones syntax_syntax.flag
-rows = (refl, refl)
+    significant_at golomb number ones syntax_syntax.flag other_slice modification nearer_first nearest_first colocated_at skip_motion inc_skip predicted_by
+    luma_predicted chroma_predicted inter4 inter_luma_built inter_chroma_built inter_built inter_luma inter_chroma firsts seconds sample_at
+rows = (refl, refl, refl)

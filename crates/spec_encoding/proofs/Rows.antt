@@ -16,9 +16,9 @@ use Rattle.spec_syntax.specs.Elements.{intra_type_string, chroma_mode_string, qp
 use Rattle.spec_syntax.specs.Levels.{coded_at}
 use Rattle.spec_syntax.specs.Blocks.{block_string, none}
 use Rattle.spec_syntax.specs.Sequences.{sequence_string}
-use Rattle.spec_macroblock.specs.Near.{near_in, last_qp, last_has_delta}
-use Rattle.spec_macroblock.specs.Parts.{parts_string}
-use Rattle.spec_macroblock.specs.Strings.{macroblock_string, mb_type_string, transform_string, modes_string, intra_chroma_string, luma_cbp_string, chroma_cbp_string, qp_string, luma_dc_string, luma_string, chroma_dc_string, chroma_ac_string}
+use Rattle.spec_partitions.specs.Near.{near_in, last_qp, last_has_delta}
+use Rattle.spec_partitions.specs.Parts.{parts_string}
+use Rattle.spec_macroblock.specs.Strings.{macroblock_string, mb_type_string, head_string, transform_string, modes_string, intra_chroma_string, luma_cbp_string, chroma_cbp_string, inter_transform_string, qp_string, luma_dc_string, luma_string, chroma_dc_string, chroma_ac_string}
 use Rattle.spec_reading.specs.HeadReaders.{idr_head}
 use Rattle.spec_slice.specs.Decoding.{asked}
 use Rattle.spec_slice.specs.Slice.{slice_string, strings_of}
@@ -36,6 +36,6 @@ row_grey : picture_units (sequence_of (record { width = 16; height = 16; num = 2
 unfolding picture_units unit_bytes escape sequence_payload sequence_fields format_fields cropping_fields usability_fields picture_payload picture_fields trail_bits
     layer_payload layer_bits slice_head_bits align_bits fields_bits slice_fields place_fields list_fields marking_fields init_fields idr_head digits bytes_of_bits ue_bits se_bits count_leading_zeros
     start_states start_state pre_state asked slice_string strings_of sequence_string near_in last_qp last_has_delta step renormalised lps_range after_lps
-    macroblock_string mb_type_string transform_string modes_string intra_chroma_string luma_cbp_string chroma_cbp_string qp_string luma_dc_string luma_string chroma_dc_string chroma_ac_string parts_string
+    macroblock_string mb_type_string head_string transform_string modes_string intra_chroma_string luma_cbp_string chroma_cbp_string inter_transform_string qp_string luma_dc_string luma_string chroma_dc_string chroma_ac_string parts_string
     blank_record inc_type_i inc_chroma_mode inc_coded intra_type_string chroma_mode_string qp_delta_string block_string coded_at none
 row_grey = refl
