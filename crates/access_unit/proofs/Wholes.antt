@@ -1,5 +1,5 @@
 -- A picture's units behind its parameter sets.
-use Rattle.std.proofs.Common.{◌≡◌, ℕ, ◌+◌, ◌-◌, ◌*◌, ◌/◌, ◌%◌, ◌==◌, ◌<◌, ◌≤◌, ◌++◌, Bool, true, false, List, length, take, Result, Ok, Err, refl, sym, ap, subst, ◌∙◌, arith, append_assoc, length-append}
+use Rattle.std.proofs.Common.{◌≡◌, ℕ, ◌+◌, ◌-◌, ◌*◌, ◌/◌, ◌%◌, ◌==◌, ◌<◌, ◌≤◌, ◌++◌, Bool, true, false, List, [], length, take, Result, Ok, Err, refl, sym, ap, subst, ◌∙◌, arith, append_assoc, length-append}
 use Rattle.std.specs.Prelude.{IsErr, OnOk}
 use Rattle.std.proofs.lemmas.Bool.Decides.{nat_tests}
 use Rattle.spec_bits.specs.Bits.{bits_of_bytes}
@@ -75,17 +75,17 @@ units_are c h s number source from t8x8 long qp id made t l q i p =
 
 picture_at : ℕ → ℕ → ℕ → ℕ → Bool → ℕ → Planes → Planes
 unfolding settled_at
-picture_at across down qp slices t8x8 id p = picture_of across down (coded_picture (settled_at across down qp slices t8x8) id p)
+picture_at across down qp slices t8x8 id p = picture_of across down [] (coded_picture (settled_at across down qp slices t8x8) id p)
 
 same_picture : (a b d e k l id jd qp rp : ℕ) (t u : Bool) (p q : Planes) → a ≡ b → d ≡ e → k ≡ l → id ≡ jd → qp ≡ rp → t ≡ u → p ≡ q → picture_at a d qp k t id p ≡ picture_at b e rp l u jd q
 same_picture a b d e k l id jd qp rp t u p q e1 e2 e3 e4 e5 e6 e7 = rw (e1, e2, e3, e4, e5, e6, e7) refl
 
 pub shown_is : (c : PictureCoder) (h : FilmHead) (s : Settings) (number : ℕ) (source from : Planes) (t8x8 : Bool) (qp id : ℕ) → IsMadeFor c h.width h.height s.slices → t8x8 ≡ s.t8x8 → qp ≡ s.qp - 2 → id ≡ number % 2 → from ≡ source
-    → picture_of c.across c.down (slices_for c t8x8 qp id from) ≡ picture_of (across_of (sequence_of h)) (down_of (sequence_of h)) (coded_picture (settled h s) number source)
+    → picture_of c.across c.down [] (slices_for c t8x8 qp id from) ≡ picture_of (across_of (sequence_of h)) (down_of (sequence_of h)) [] (coded_picture (settled h s) number source)
 unfolding picture_at settled_at
 shown_is c h s number source from t8x8 qp id made t q i p =
     same_picture c.across (across_of (sequence_of h)) c.down (down_of (sequence_of h)) c.slices s.slices id (number % 2) qp (s.qp - 2) t8x8 s.t8x8 from source made.across made.down made.slices_are i q t p
-    ∙ ap (λ (slices : List Slice). picture_of (across_of (sequence_of h)) (down_of (sequence_of h)) slices) (by_parity (settled h s) number source)
+    ∙ ap (λ (slices : List Slice). picture_of (across_of (sequence_of h)) (down_of (sequence_of h)) [] slices) (by_parity (settled h s) number source)
 
 pub told_of : {E : Type 0} {X : Type 0} (answer : Result (Unit {0}) E) → (IsErr answer → ⊥) → OnOk answer X → X
 told_of (Ok a) good x = x

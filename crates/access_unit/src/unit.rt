@@ -1,5 +1,5 @@
 // A whole access unit.
-ghost use Rattle.std.specs.Prelude.{◌≡◌, ◌≤◌, ◌+◌, ◌-◌, ◌%◌, length, true, OnOk};
+ghost use Rattle.std.specs.Prelude.{◌≡◌, ◌≤◌, ◌+◌, ◌-◌, ◌%◌, [], length, true, OnOk};
 ghost use Rattle.enc_tables.specs.declared.SliceKind.TheVariants.{I};
 ghost use Rattle.picture_planes.specs.Pictures.{planes_of};
 ghost use Rattle.bit_strings.specs.BitText.{Appends};
@@ -92,7 +92,7 @@ pub fn code_access_unit<R>(
     requires room { out.old.room ≤ length out.old.text + coder.old.room }
     requires whole { length out.old.text % 8 ≡ 0 }
     ensures unit { Appends out.old out.new (bits_of_bytes (encoded_picture head.now settings.now number (planes_of source.now))) result }
-    ensures decoded { OnOk result (planes_of coder.new.picture ≡ picture_of (across_of (sequence_of head.now)) (down_of (sequence_of head.now)) (coded_picture (settled head.now settings.now) number (planes_of source.now))) }
+    ensures decoded { OnOk result (planes_of coder.new.picture ≡ picture_of (across_of (sequence_of head.now)) (down_of (sequence_of head.now)) [] (coded_picture (settled head.now settings.now) number (planes_of source.now))) }
     ensures whole { length out.new.text % 8 ≡ 0 }
     ensures planned { HasPlans coder.new settings.now.t8x8 (planes_of source.now) }
     ensures made { IsMadeFor coder.new head.now.width head.now.height settings.now.slices }

@@ -106,7 +106,7 @@ uncropped_picture h p allowed fits =
 
 -- what is kept is the reconstruction
 pub kept_is : (h : FilmHead) (s : Settings) (number : ℕ) (source : Planes) (p : Picture) → AllowedHead h → FitsHead h p
-    → planes_of p ≡ picture_of (across_of (sequence_of h)) (down_of (sequence_of h)) (coded_picture (settled h s) number source) → planes_of p ≡ reconstructed h s number source
+    → planes_of p ≡ picture_of (across_of (sequence_of h)) (down_of (sequence_of h)) [] (coded_picture (settled h s) number source) → planes_of p ≡ reconstructed h s number source
 unfolding reconstructed
 kept_is h s number source p allowed fits is =
     sym (uncropped_picture h p allowed fits) ∙ ap (λ q. cropped (across_of (sequence_of h)) h.width h.height q) is

@@ -77,7 +77,7 @@ impl UnitCoder {
         ensures made { IsMadeFor self.new head.now settings.now }
         ensures sizes { FitsHead head.now self.new.coder.picture }
         ensures unit { Appends out.old out.new (bits_of_bytes (encoded_picture head.now settings.now number (planes_of source.now))) result }
-        ensures picture { IfOk result (λ _. planes_of self.new.coder.picture ≡ picture_of (across_of (sequence_of head.now)) (down_of (sequence_of head.now)) (coded_picture (settled head.now settings.now) number (planes_of source.now))) }
+        ensures picture { IfOk result (λ _. planes_of self.new.coder.picture ≡ picture_of (across_of (sequence_of head.now)) (down_of (sequence_of head.now)) [] (coded_picture (settled head.now settings.now) number (planes_of source.now))) }
     {
         plan_access_unit(rt, &mut self.coder, head, settings, source, gate);
         code_access_unit(

@@ -8,6 +8,7 @@ use Rattle.spec_bits.specs.declared.heads.SliceHead.{SliceHead}
 use Rattle.spec_film.specs.Films.{Planes}
 use Rattle.spec_reading.specs.HeadReaders.{idr_head}
 use Rattle.spec_slice_layer.specs.Layer.{Format, Slice, IsIdrHead, layer_bits}
+use Rattle.spec_built.specs.Inter.{no_sources}
 use Rattle.spec_built.specs.Records.{slice_built}
 use Rattle.spec_encoding.specs.Coding.{first_row, first_of, count_of, records_of}
 use Rattle.spec_encoding.proofs.Coded.{length-coded}
@@ -133,7 +134,7 @@ written from to was new h inside long =
     ∙ take_at (take from was ++ new) (drop (to - from) (drop from was)) to both
 
 pub slice_coded : (c : Coding) (p : Picture) (k first end n from to : ℕ) (h : SliceHead) (source before now : Planes) (was new : List MbRecord) → IsGiven c p k first end n h → from ≡ first * c.across → to ≡ end * c.across → from ≤ to → to ≤ length was
-    → new ≡ records_to (place_of p first c.t8x8) h source before n → now ≡ slice_built (p.y.width / 16) h.first_mb new before
+    → new ≡ records_to (place_of p first c.t8x8) h source before n → now ≡ slice_built (p.y.width / 16) no_sources h.first_mb new before
     → SliceCoded c (slice_at c source k before) k before now was (take from was ++ (new ++ drop (to - from) (drop from was)))
 slice_coded c p k first end n from to h source before now was new g a b rows inside records planes =
     let wide = sixteenth p.y.width c.across g.coding.wide in
@@ -144,7 +145,7 @@ slice_coded c p k first end n from to h source before now was new g a b rows ins
     let to_is : to ≡ first_of (settled_of c) (k + 1) = b ∙ ap (λ (r : ℕ). r * c.across) g.end_is in
     let long : length new ≡ to - from =
     ap (λ (rs : List MbRecord). length rs) records
-    ∙ length-coded place.across h.first_mb h.qp (kind_at place h.qp source) (plan_at place source) source before n
+    ∙ length-coded place.across no_sources h.first_mb h.qp (kind_at place h.qp source) (plan_at place source) source before n
     ∙ g.count
     ∙ ap (λ (a : ℕ). (end - first) * a) wide
     ∙ between first end c.across g.order
@@ -152,9 +153,9 @@ slice_coded c p k first end n from to h source before now was new g a b rows ins
     record {
       planes =
           planes
-          ∙ ap (λ (a : ℕ). slice_built a h.first_mb new before) wide
-          ∙ ap (λ (rs : List MbRecord). slice_built c.across h.first_mb rs before) records
-          ∙ ap (λ (s : Slice). slice_built c.across s.head.first_mb s.records before) same;
+          ∙ ap (λ (a : ℕ). slice_built a no_sources h.first_mb new before) wide
+          ∙ ap (λ (rs : List MbRecord). slice_built c.across no_sources h.first_mb rs before) records
+          ∙ ap (λ (s : Slice). slice_built c.across no_sources s.head.first_mb s.records before) same;
       records =
           ap (λ (m : ℕ). take m (take from was ++ (new ++ drop (to - from) (drop from was)))) (sym to_is)
           ∙ written from to was new rows inside long

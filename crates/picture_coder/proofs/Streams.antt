@@ -22,7 +22,7 @@ same_parity : (c : Settled) (number : ℕ) (source : Planes) (k : ℕ) → slice
 unfolding slices_of
 same_parity c number source zero = refl
 same_parity c number source (suc k) =
-    ap₂ (λ (before : List Slice) (i : ℕ). let s : Slice = record { head = idr_head (first_of c k) 0 i 0 c.qp true; records = records_of c source k (slices_built c.across before (blank_planes c.across c.down)) } in before ++ s ∷ [])
+    ap₂ (λ (before : List Slice) (i : ℕ). let s : Slice = record { head = idr_head (first_of c k) 0 i 0 c.qp true; records = records_of c source k (slices_built c.across [] before (blank_planes c.across c.down)) } in before ++ s ∷ [])
     (same_parity c number source k) (twice number)
   where
     twice : (n : ℕ) → n % 2 % 2 ≡ n % 2

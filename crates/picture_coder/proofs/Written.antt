@@ -12,15 +12,17 @@ use Rattle.spec_bits.proofs.Codes.{align_whole}
 use Rattle.spec_bits.proofs.Payloads.{length-escape_least}
 use Rattle.spec_film.specs.Films.{Planes}
 use Rattle.spec_slice_layer.specs.Layer.{Format, Slice, layer_bits, layer_payload}
+use Rattle.spec_built.specs.Inter.{Sources, no_sources}
 use Rattle.spec_built.specs.Records.{slice_built}
-use Rattle.spec_encoding.specs.Frames.{blank_planes, slices_built, all_records}
+use Rattle.spec_encoding.specs.Frames.{blank_planes, sources_by, slices_built, all_records}
 use Rattle.spec_encoding.specs.Coding.{slices_of}
 use Rattle.spec_encoding.proofs.Ends.{payload_ends}
 use Rattle.spec_encoding.proofs.Numbers.{row_none}
 use Rattle.picture_coder.specs.declared.coding.Coding.{Coding}
 use Rattle.slice_coder.specs.Left.{padded}
 use Rattle.picture_coder.specs.Slices.{units_of}
-use Rattle.picture_coder.specs.Pictures.{format_for, slice_at, unit_of, SliceCoded, SlicesCoded, still_long, slices_to, units_to}
+use Rattle.picture_coder.specs.Pictures.{settled_of, format_for, slice_at, unit_of, SliceCoded, SlicesCoded, still_long, slices_to, units_to}
+use Rattle.picture_coder.proofs.Intra.{no_sources_there}
 
 -- ---- the text of a payload
 
@@ -52,14 +54,14 @@ unit_long c long s =
 
 -- ---- one slice more
 
-pub more_slices : (c : Coding) (source : Planes) (k : ℕ) → slices_to c source (k + 1) ≡ slices_to c source k ++ (slice_at c source k (slices_built c.across (slices_to c source k) (blank_planes c.across c.down)) ∷ [])
+pub more_slices : (c : Coding) (source : Planes) (k : ℕ) → slices_to c source (k + 1) ≡ slices_to c source k ++ (slice_at c source k (slices_built c.across [] (slices_to c source k) (blank_planes c.across c.down)) ∷ [])
 unfolding slices_of
 more_slices c source k = let e : k + 1 ≡ suc k = omega arith in ap (λ (n : ℕ). slices_to c source n) e
 
-pub more_built : (across : ℕ) (ss : List Slice) (s : Slice) (p : Planes) → slices_built across (ss ++ s ∷ []) p ≡ slice_built across s.head.first_mb s.records (slices_built across ss p)
+pub more_built : (across : ℕ) (ss : List Slice) (s : Slice) (p : Planes) → slices_built across [] (ss ++ s ∷ []) p ≡ slice_built across (sources_by s.head []) s.head.first_mb s.records (slices_built across [] ss p)
 unfolding slices_built
 more_built across [] s p = refl
-more_built across (x ∷ ss) s p = more_built across ss s (slice_built across x.head.first_mb x.records p)
+more_built across (x ∷ ss) s p = more_built across ss s (slice_built across (sources_by x.head []) x.head.first_mb x.records p)
 
 pub more_records : (ss : List Slice) (s : Slice) → all_records (ss ++ s ∷ []) ≡ all_records ss ++ s.records
 more_records ss s = flat_map-append (λ (x : Slice). x.records) ss (s ∷ []) ∙ ap (λ (t : List MbRecord). all_records ss ++ t) (nothing s.records)
@@ -91,13 +93,14 @@ none_coded c source now records e = record {
 
 pub one_more : (c : Coding) (source : Planes) (k : ℕ) (old new : Planes) (was now : List MbRecord) → SlicesCoded c source k old was → SliceCoded c (slice_at c source k old) k old new was now → SlicesCoded c source (k + 1) new now
 one_more c source k old new was now before one =
-    let built : Planes = slices_built c.across (slices_to c source k) (blank_planes c.across c.down) in
+    let built : Planes = slices_built c.across [] (slices_to c source k) (blank_planes c.across c.down) in
     let more = more_slices c source k in record {
       planes =
           one.planes
-          ∙ ap (λ (p : Planes). slice_built c.across (slice_at c source k p).head.first_mb (slice_at c source k p).records p) before.planes
+          ∙ ap (λ (p : Planes). slice_built c.across no_sources (slice_at c source k p).head.first_mb (slice_at c source k p).records p) before.planes
+          ∙ ap (λ (o : Sources). slice_built c.across o (slice_at c source k built).head.first_mb (slice_at c source k built).records built) (sym (no_sources_there (settled_of c) c.idr_id k))
           ∙ sym (more_built c.across (slices_to c source k) (slice_at c source k built) (blank_planes c.across c.down))
-          ∙ ap (λ (ss : List Slice). slices_built c.across ss (blank_planes c.across c.down)) (sym more);
+          ∙ ap (λ (ss : List Slice). slices_built c.across [] ss (blank_planes c.across c.down)) (sym more);
       records_are =
           one.records
           ∙ ap₂ (λ (t : List MbRecord) (p : Planes). t ++ (slice_at c source k p).records) before.records_are before.planes
@@ -106,7 +109,7 @@ one_more c source k old new was now before one =
     }
 
 -- the unit of the next slice stands behind the units before it
-pub units_more : (c : Coding) (source : Planes) (long next : Bool) (k : ℕ) (old : Planes) (start : BitText) (was : BitText) → old ≡ slices_built c.across (slices_to c source k) (blank_planes c.across c.down) → next ≡ still_long long (slices_to c source k)
+pub units_more : (c : Coding) (source : Planes) (long next : Bool) (k : ℕ) (old : Planes) (start : BitText) (was : BitText) → old ≡ slices_built c.across [] (slices_to c source k) (blank_planes c.across c.down) → next ≡ still_long long (slices_to c source k)
     → was ≡ record start { text = start.text ++ units_to c source long k }
     → record was { text = was.text ++ unit_of c next (slice_at c source k old) } ≡ record start { text = start.text ++ units_to c source long (k + 1) }
 units_more c source long next k old start was e n w =
@@ -120,11 +123,11 @@ units_more c source long next k old start was e n w =
     ∙ ap (λ (ss : List Slice). bits_of_bytes (units_of long (format_for c) ss)) (sym (more_slices c source k))))
   where
     built : Planes
-    built = slices_built c.across (slices_to c source k) (blank_planes c.across c.down)
+    built = slices_built c.across [] (slices_to c source k) (blank_planes c.across c.down)
 
 -- a start code of four bytes comes first alone
 pub then_short : (c : Coding) (source : Planes) (long : Bool) (k : ℕ) → false ≡ still_long long (slices_to c source (k + 1))
-then_short c source long k = sym (ap (λ (ss : List Slice). still_long long ss) (more_slices c source k) ∙ behind (slices_to c source k) (slice_at c source k (slices_built c.across (slices_to c source k) (blank_planes c.across c.down))))
+then_short c source long k = sym (ap (λ (ss : List Slice). still_long long ss) (more_slices c source k) ∙ behind (slices_to c source k) (slice_at c source k (slices_built c.across [] (slices_to c source k) (blank_planes c.across c.down))))
   where
     behind : (ss : List Slice) (s : Slice) → still_long long (ss ++ s ∷ []) ≡ false
     behind [] s = refl
@@ -138,7 +141,7 @@ longer_by c source long k (suc n) =
     let h = ap (λ (m : ℕ). length (units_to c source long m)) e in
     let g = longer_by c source long k n in
     let more = ap (λ (ss : List Slice). length (bits_of_bytes (units_of long (format_for c) ss))) (more_slices c source (k + n)) in
-    let s : Slice = slice_at c source (k + n) (slices_built c.across (slices_to c source (k + n)) (blank_planes c.across c.down)) in
+    let s : Slice = slice_at c source (k + n) (slices_built c.across [] (slices_to c source (k + n)) (blank_planes c.across c.down)) in
     let joined = ap (λ (t : List ℕ). length (bits_of_bytes t)) (more_units long (format_for c) (slices_to c source (k + n)) s) in
     let parts = ap (λ (t : List Bool). length t) (bits_of_bytes-append (units_of long (format_for c) (slices_to c source (k + n))) (unit_bytes (still_long long (slices_to c source (k + n))) 3 5 (layer_payload (format_for c) s))) in
     let sum = length-append (units_to c source long (k + n)) (unit_of c (still_long long (slices_to c source (k + n))) s) in
@@ -166,7 +169,7 @@ unfolding slices_of
 long_first c source long = refl
 
 -- the room ends in the unit of a slice
-pub stopped : (c : Coding) (source : Planes) (long next : Bool) (k : ℕ) (old : Planes) (start was new : BitText) → k < c.slices → old ≡ slices_built c.across (slices_to c source k) (blank_planes c.across c.down)
+pub stopped : (c : Coding) (source : Planes) (long next : Bool) (k : ℕ) (old : Planes) (start was new : BitText) → k < c.slices → old ≡ slices_built c.across [] (slices_to c source k) (blank_planes c.across c.down)
     → next ≡ still_long long (slices_to c source k) → was ≡ record start { text = start.text ++ units_to c source long k }
     → (was.room < length was.text + length (unit_of c next (slice_at c source k old))) × (new ≡ was)
     → (start.room < length start.text + length (units_to c source long c.slices)) × IsLonger start new

@@ -6,6 +6,7 @@ use Rattle.spec_bits.specs.Bits.{bits_of_bytes}
 use Rattle.spec_bits.specs.Units.{unit_bytes}
 use Rattle.spec_film.specs.Films.{Planes}
 use Rattle.spec_slice_layer.specs.Layer.{Format, Slice, layer_payload}
+use Rattle.spec_built.specs.Inter.{no_sources}
 use Rattle.spec_built.specs.Records.{slice_built}
 use Rattle.spec_encoding.specs.Frames.{blank_planes, slices_built, all_records}
 use Rattle.spec_encoding.specs.Coding.{Settled, first_of, head_of, records_of, slices_of}
@@ -40,7 +41,7 @@ unit_of c long s = bits_of_bytes (unit_bytes long 3 5 (layer_payload (format_for
 
 -- slice k was coded into the picture and the records, whose earlier ones stay
 pub record SliceCoded (c : Coding) (s : Slice) (k : ℕ) (old new : Planes) (was now : List MbRecord) : Type 0 where
-  pub planes : new ≡ slice_built c.across s.head.first_mb s.records old
+  pub planes : new ≡ slice_built c.across no_sources s.head.first_mb s.records old
   pub records : take (first_of (settled_of c) (k + 1)) now ≡ take (first_of (settled_of c) k) was ++ s.records
 
 -- whether the next unit begins with a start code of four bytes, behind the units of these slices
@@ -53,7 +54,7 @@ slices_to c source n = slices_of (settled_of c) c.idr_id source n
 
 -- the first n slices were coded
 pub record SlicesCoded (c : Coding) (source : Planes) (n : ℕ) (now : Planes) (records : List MbRecord) : Type 0 where
-  pub planes : now ≡ slices_built c.across (slices_to c source n) (blank_planes c.across c.down)
+  pub planes : now ≡ slices_built c.across [] (slices_to c source n) (blank_planes c.across c.down)
   pub records_are : take (first_of (settled_of c) n) records ≡ all_records (slices_to c source n)
 
 -- the units of the first n slices stand behind the old bits

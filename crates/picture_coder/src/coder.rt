@@ -40,7 +40,7 @@ pub struct PictureCoder {
 }
 
 impl PictureCoder {
-    ghost use Rattle.std.specs.Prelude.{◌≡◌, ◌≤◌, ◌<◌, ◌+◌, ◌*◌, ◌/◌, ◌%◌, ◌==◌, true, length, max, IfOk, OnOk};
+    ghost use Rattle.std.specs.Prelude.{◌≡◌, ◌≤◌, ◌<◌, ◌+◌, ◌*◌, ◌/◌, ◌%◌, ◌==◌, true, [], length, max, IfOk, OnOk};
     ghost use Rattle.enc_tables.specs.declared.SliceKind.TheVariants.{I};
     ghost use Rattle.picture_planes.specs.Pictures.{planes_of, SameShapes};
     ghost use Rattle.bit_strings.specs.BitText.{Appends};
@@ -141,7 +141,7 @@ impl PictureCoder {
         requires room { out.old.room ≤ length out.old.text + self.old.room }
         requires whole { length out.old.text % 8 ≡ 0 }
         ensures units { Appends out.old out.new (bits_for self.old job.now.t8x8 (length out.old.text == 0) (slices_for self.old job.now.t8x8 qp job.now.idr_id (planes_of job.now.source.now))) result }
-        ensures decoded { OnOk result (planes_of self.new.picture ≡ picture_of self.old.across self.old.down (slices_for self.old job.now.t8x8 qp job.now.idr_id (planes_of job.now.source.now))) }
+        ensures decoded { OnOk result (planes_of self.new.picture ≡ picture_of self.old.across self.old.down [] (slices_for self.old job.now.t8x8 qp job.now.idr_id (planes_of job.now.source.now))) }
         ensures sizes { HasOwnSizes self.new }
         ensures planned { HasPlans self.new job.now.t8x8 (planes_of job.now.source.now) }
         ensures others { OnlyPictureDiffers self.old self.new }

@@ -69,7 +69,7 @@ pub fn code_picture(
     ensures count { length records.new ≡ length records.old }
     ensures payload { result.1 ≡ payload }
     ensures units { Appends out.old out.new (units_to coding.now (planes_of source.now) (length out.old.text == 0) coding.now.slices) result.0 }
-    ensures picture { OnOk result.0 (planes_of picture.new ≡ picture_of coding.now.across coding.now.down (slices_to coding.now (planes_of source.now) coding.now.slices)) }
+    ensures picture { OnOk result.0 (planes_of picture.new ≡ picture_of coding.now.across coding.now.down [] (slices_to coding.now (planes_of source.now) coding.now.slices)) }
 {
     let start = out.len();
     clear(picture);

@@ -12,6 +12,7 @@ use Rattle.picture_planes.specs.declared.plane.Plane.{Plane}
 use Rattle.picture_planes.specs.declared.stripe.Stripe.{Stripe}
 use Rattle.spec_film.specs.Films.{Planes}
 use Rattle.spec_built.specs.declared.Site.{Site}
+use Rattle.spec_built.specs.Inter.{no_sources}
 use Rattle.spec_built.specs.Records.{site_of, intra_built, macroblock_built}
 use Rattle.spec_built.specs.Slices.{coded_record}
 use Rattle.spec_records.specs.Coded.{ModesFit}
@@ -99,6 +100,6 @@ coded_is across site at kind plan the qp t8x8 source p e k h =
     ∙ ap (λ (q : MbPlan). coded_record across at (choice I q qp t8x8).0 q source p) h
 
 pub built_at : (across wide first address qp : ℕ) (site : Site) (kind : MbKind) (plan : MbPlan) (source p : Planes) (mb : MbRecord) → wide ≡ 16 * across → site ≡ site_of across first address qp
-    → mb ≡ coded_record across (site_of across first address qp) kind plan source p → intra_built wide site mb p ≡ macroblock_built across first address mb p
+    → mb ≡ coded_record across (site_of across first address qp) kind plan source p → intra_built wide site mb p ≡ macroblock_built across no_sources first address mb p
 built_at across wide first address qp site kind plan source p mb w e is =
     ap (λ (n : ℕ). intra_built n site mb p) w ∙ ap (λ (s : Site). intra_built (16 * across) s mb p) e ∙ built_is across first address qp kind plan source p p mb is

@@ -1,5 +1,5 @@
 -- The coded slice as a slice of the syntax, and its bits.
-use Rattle.std.proofs.Common.{◌≡◌, ℕ, ◌+◌, ◌-◌, ◌*◌, ◌/◌, ◌<◌, ◌≤◌, Bool, List, ◌++◌, refl, sym, ap, subst, arith}
+use Rattle.std.proofs.Common.{◌≡◌, ℕ, ◌+◌, ◌-◌, ◌*◌, ◌/◌, ◌<◌, ◌≤◌, Bool, List, ◌++◌, refl, sym, ap, subst, arith, true}
 use Rattle.enc_tables.specs.declared.records.CtxState.{CtxState}
 use Rattle.spec_bits.specs.Allowed.{IsSliceHead, HasLists}
 use Rattle.spec_bits.specs.declared.heads.SliceHead.{SliceHead}
@@ -10,8 +10,11 @@ use Rattle.spec_reading.specs.HeadReaders.{idr_head}
 use Rattle.spec_syntax.specs.declared.Bin.{Bin}
 use Rattle.spec_slice.specs.Decoding.{asked}
 use Rattle.spec_slice.specs.Slice.{slice_string}
+use Rattle.spec_lists.specs.Lists.{no_lists}
+use Rattle.spec_lists.specs.Colocated.{colocated_at}
 use Rattle.spec_slice_layer.specs.Layer.{Format, Slice, IsIdrHead, IsSlice, layer_bits, string_after, states_of}
 use Rattle.spec_records.specs.Coded.{PlanesFit}
+use Rattle.spec_built.specs.Inter.{no_sources}
 use Rattle.spec_encoding.proofs.Coded.{are_coded}
 use Rattle.slice_coder.specs.declared.place.Place.{Place}
 use Rattle.slice_coder.specs.Plans.{plan_at, kind_at, coded, place_of, format_of, IsWhole}
@@ -30,23 +33,23 @@ head_allowed h is = record {
   qp = is.qp_fits;
 }
 
-pub is_slice : (total : ℕ) (place : Place) (h : SliceHead) (source p : Planes) (count : ℕ) → IsIdrHead h → PlanesFit source → PlanesFit p → 0 < count → h.first_mb + count ≤ total
-    → (let f : Format = record { across = place.across; total = total; t8x8 = place.t8x8 } in IsSlice f (coded place h source p count))
-is_slice total place h source p count is g b some fits =
+pub is_slice : (total : ℕ) (place : Place) (h : SliceHead) (source p : Planes) (count : ℕ) → IsIdrHead h → h.first_mb ≡ place.row * place.across → PlanesFit source → PlanesFit p → 0 < count → h.first_mb + count ≤ total
+    → (let f : Format = record { across = place.across; total = total; t8x8 = place.t8x8 } in IsSlice f (colocated_at no_lists) true (coded place h source p count))
+is_slice total place h source p count is first g b some fits =
     let f : Format = record { across = place.across; total = total; t8x8 = place.t8x8 } in
     let long = records_long place h source p count in
     record {
       head_fits = is;
       some = omega arith;
       fits = omega arith;
-      each = (are_coded f h (kind_at place h.qp source) (plan_at place source) source p count (settles total place h source p is g b)).0;
+      each = (are_coded f (colocated_at no_lists) h no_sources (kind_at place h.qp source) (plan_at place source) source p count (settles total place h source p is first g b)).0;
     }
 
 -- rows of macroblocks of a picture as a slice of it
 pub is_slice_of : (q : Picture) (t8x8 : Bool) (h : SliceHead) (source p : Planes) (a b count : ℕ) → IsWhole q → a < b → 16 * b ≤ q.y.height → IsIdrHead h → h.first_mb ≡ a * (q.y.width / 16) → count ≡ (b - a) * (q.y.width / 16)
-    → PlanesFit source → PlanesFit p → IsSlice (format_of q t8x8) (coded (place_of q a t8x8) h source p count)
+    → PlanesFit source → PlanesFit p → IsSlice (format_of q t8x8) (colocated_at no_lists) true (coded (place_of q a t8x8) h source p count)
 is_slice_of q t8x8 h source p a b count whole rows high is first long g k =
-    is_slice (q.y.width / 16 * (q.y.height / 16)) (place_of q a t8x8) h source p count is g k
+    is_slice (q.y.width / 16 * (q.y.height / 16)) (place_of q a t8x8) h source p count is first g k
     (some_macroblocks count a b (q.y.width / 16) long rows (some_across q whole))
     (slice_ends h.first_mb count a b (q.y.width / 16) (q.y.height / 16) first long (omega arith) (omega arith))
 

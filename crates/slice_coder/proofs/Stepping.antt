@@ -7,6 +7,7 @@ use Rattle.spec_film.specs.Films.{Planes}
 use Rattle.spec_bits.specs.declared.heads.SliceHead.{SliceHead}
 use Rattle.spec_macroblock.specs.Records.{IsRecord}
 use Rattle.spec_slice_layer.specs.Layer.{IsIdrHead}
+use Rattle.spec_built.specs.Inter.{no_sources}
 use Rattle.spec_built.specs.Records.{site_of, slice_built, macroblock_built}
 use Rattle.spec_built.specs.Slices.{coded_record}
 use Rattle.spec_records.specs.Coded.{PlanesFit}
@@ -28,21 +29,21 @@ few_macroblocks p across w =
 
 module _ (place : Place) (h : SliceHead) (source p : Planes) (n : ℕ) (mb : MbRecord) where
   -- the record of macroblock n, coded over what was built before
-  pub next_is : (now : Planes) → now ≡ slice_built place.across h.first_mb (records_to place h source p n) p
+  pub next_is : (now : Planes) → now ≡ slice_built place.across no_sources h.first_mb (records_to place h source p n) p
       → mb ≡ coded_record place.across (site_of place.across h.first_mb (h.first_mb + n) h.qp) (kind_at place h.qp source (h.first_mb + n)) (plan_at place source (h.first_mb + n)) source now
       → mb ≡ record_at place h source p n
   next_is now e is =
       is
       ∙ ap (λ (q : Planes). coded_record place.across (site_of place.across h.first_mb (h.first_mb + n) h.qp) (kind_at place h.qp source (h.first_mb + n)) (plan_at place source (h.first_mb + n)) source q) e
 
-  pub next_fits : (before : List MbRecord) → IsIdrHead h → PlanesFit source → PlanesFit p → before ≡ records_to place h source p n → mb ≡ record_at place h source p n → IsRecord (near_at place h before) mb
-  next_fits before is g b e k =
+  pub next_fits : (before : List MbRecord) → IsIdrHead h → h.first_mb ≡ place.row * place.across → PlanesFit source → PlanesFit p → before ≡ records_to place h source p n → mb ≡ record_at place h source p n → IsRecord (near_at place h before) mb
+  next_fits before is first g b e k =
       subst (λ (xs : List MbRecord). IsRecord (near_at place h xs) mb) (sym e)
-      (subst (λ (r : MbRecord). IsRecord (near_at place h (records_to place h source p n)) r) (sym k) (record_fits place h source p is g b n))
+      (subst (λ (r : MbRecord). IsRecord (near_at place h (records_to place h source p n)) r) (sym k) (record_fits place h source p is first g b n))
 
-  pub next_follows : (before : List MbRecord) → IsIdrHead h → PlanesFit source → PlanesFit p → before ≡ records_to place h source p n → mb ≡ record_at place h source p n → Follows h before mb
-  next_follows before is g b e k =
-      subst (λ (xs : List MbRecord). Follows h xs mb) (sym e) (subst (λ (r : MbRecord). Follows h (records_to place h source p n) r) (sym k) (follows place h source p is g b n))
+  pub next_follows : (before : List MbRecord) → IsIdrHead h → h.first_mb ≡ place.row * place.across → PlanesFit source → PlanesFit p → before ≡ records_to place h source p n → mb ≡ record_at place h source p n → Follows h before mb
+  next_follows before is first g b e k =
+      subst (λ (xs : List MbRecord). Follows h xs mb) (sym e) (subst (λ (r : MbRecord). Follows h (records_to place h source p n) r) (sym k) (follows place h source p is first g b n))
 
   -- the records with this one
   grown : mb ≡ record_at place h source p n → records_to place h source p n ++ mb ∷ [] ≡ records_to place h source p (n + 1)
@@ -51,14 +52,14 @@ module _ (place : Place) (h : SliceHead) (source p : Planes) (n : ℕ) (mb : MbR
   pub records_more : (records : List MbRecord) → n < length records → take n records ≡ records_to place h source p n → mb ≡ record_at place h source p n → take (n + 1) (set records n mb) ≡ records_to place h source p (n + 1)
   records_more records inside e k = take_more_set records n mb inside ∙ ap (λ (xs : List MbRecord). xs ++ mb ∷ []) e ∙ grown k
 
-  pub built_more : (old new : Planes) → old ≡ slice_built place.across h.first_mb (records_to place h source p n) p → mb ≡ record_at place h source p n → new ≡ macroblock_built place.across h.first_mb (h.first_mb + n) mb old
-      → new ≡ slice_built place.across h.first_mb (records_to place h source p (n + 1)) p
+  pub built_more : (old new : Planes) → old ≡ slice_built place.across no_sources h.first_mb (records_to place h source p n) p → mb ≡ record_at place h source p n → new ≡ macroblock_built place.across no_sources h.first_mb (h.first_mb + n) mb old
+      → new ≡ slice_built place.across no_sources h.first_mb (records_to place h source p (n + 1)) p
   built_more old new e k is =
       is
-      ∙ ap (λ (q : Planes). macroblock_built place.across h.first_mb (h.first_mb + n) mb q) e
-      ∙ ap (λ (m : ℕ). macroblock_built place.across h.first_mb (h.first_mb + m) mb (slice_built place.across h.first_mb (records_to place h source p n) p)) (sym (records_long place h source p n))
-      ∙ sym (built_push place.across h.first_mb (records_to place h source p n) mb p)
-      ∙ ap (λ (rs : List MbRecord). slice_built place.across h.first_mb rs p) (grown k)
+      ∙ ap (λ (q : Planes). macroblock_built place.across no_sources h.first_mb (h.first_mb + n) mb q) e
+      ∙ ap (λ (m : ℕ). macroblock_built place.across no_sources h.first_mb (h.first_mb + m) mb (slice_built place.across no_sources h.first_mb (records_to place h source p n) p)) (sym (records_long place h source p n))
+      ∙ sym (built_push place.across no_sources h.first_mb (records_to place h source p n) mb p)
+      ∙ ap (λ (rs : List MbRecord). slice_built place.across no_sources h.first_mb rs p) (grown k)
 
   pub bins_more : (count : ℕ) (before : List MbRecord) (start now next : Coding) (coder : CoderState) → before ≡ records_to place h source p n → mb ≡ record_at place h source p n
       → Opened (string_at place h) count (records_to place h source p n) start now → n < count → CodesPlain now.coder (flag_before n) coder → Codes (coding coder now.states) (string_at place h before mb) next

@@ -11,6 +11,7 @@ use Rattle.picture_planes.specs.declared.picture.Picture.{Picture}
 use Rattle.picture_planes.specs.declared.stripe.Stripe.{Stripe}
 use Rattle.spec_film.specs.Films.{Planes}
 use Rattle.spec_bits.specs.declared.heads.SliceHead.{SliceHead}
+use Rattle.spec_built.specs.Inter.{no_sources}
 use Rattle.spec_built.specs.Slices.{coded_slice}
 use Rattle.spec_choice.specs.IntraPlans.{intra_plan, intra_plans}
 use Rattle.spec_slice_layer.specs.Layer.{Format, Slice}
@@ -25,7 +26,7 @@ kind_at place qp source address = (choice I (plan_at place source address) qp pl
 
 -- the first n records of the slice with this header, where these planes were built before
 abbrev pub records_to : Place → SliceHead → Planes → Planes → ℕ → List MbRecord
-records_to place h source before n = coded_slice place.across h.first_mb h.qp (kind_at place h.qp source) (plan_at place source) source before n
+records_to place h source before n = coded_slice place.across no_sources h.first_mb h.qp (kind_at place h.qp source) (plan_at place source) source before n
 
 -- a row of macroblocks is planned, each of them, as a row of a slice that begins with the place's row
 pub record IsPlanned (place : Place) (source : Planes) (row : ℕ) (p : RowPlan) : Type 0 where

@@ -2,7 +2,7 @@
 use Rattle.std.specs.Prelude.{◌≡◌, ℕ, ◌==◌, false, if◌then◌else◌, List, [], ◌∷◌, ◌++◌, length}
 use Rattle.enc_tables.specs.declared.records.MbRecord.{MbRecord}
 use Rattle.spec_bits.specs.declared.heads.SliceHead.{SliceHead}
-use Rattle.spec_macroblock.specs.Near.{Near, near_in, last_qp, last_has_delta}
+use Rattle.spec_partitions.specs.Near.{Near, SliceFacts, near_in, last_qp, last_has_delta}
 use Rattle.spec_macroblock.specs.Strings.{macroblock_string}
 use Rattle.spec_syntax.specs.declared.Bin.{Bin}
 use Rattle.spec_syntax.specs.Syntax.{at}
@@ -11,9 +11,21 @@ use Rattle.spec_slice.specs.Slice.{strings_of}
 use Rattle.bin_writer.specs.Coding.{Coding, Codes}
 use Rattle.slice_coder.specs.declared.place.Place.{Place}
 
+-- what the slice says to all its macroblocks
+abbrev pub facts_at : Place → SliceHead → SliceFacts
+facts_at place h = record {
+  kind = h.kind;
+  width = place.across;
+  first = h.first_mb;
+  qp = h.qp;
+  t8x8 = place.t8x8;
+  refs0 = h.refs0;
+  refs1 = h.refs1;
+}
+
 -- what is known behind these macroblocks of the slice
 abbrev pub near_at : Place → SliceHead → List MbRecord → Near
-near_at place h before = near_in h.kind place.across h.first_mb h.qp place.t8x8 before
+near_at place h before = near_in (facts_at place h) before
 
 -- the bins of a macroblock behind these
 abbrev pub string_at : Place → SliceHead → List MbRecord → MbRecord → List Bin

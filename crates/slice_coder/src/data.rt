@@ -4,6 +4,7 @@ ghost use Rattle.picture_planes.specs.Pictures.{SameShapes, planes_of};
 ghost use Rattle.spec_reading.specs.HeadReaders.{idr_head};
 ghost use Rattle.spec_slice_layer.specs.Layer.{IsIdrHead};
 ghost use Rattle.spec_records.specs.Coded.{PlanesFit};
+ghost use Rattle.spec_built.specs.Inter.{no_sources};
 ghost use Rattle.spec_built.specs.Records.{slice_built};
 ghost use Rattle.bin_writer.specs.Coding.{seen, IsReady};
 ghost use Rattle.intra_coder.specs.Stripes.{planes_in};
@@ -48,7 +49,7 @@ pub fn code_macroblocks(
     ensures begins { stripe.new.first ≡ stripe.old.first }
     ensures shapes { SameShapes stripe.old.picture.now stripe.new.picture.now }
     ensures records { records.new ≡ records_to place.now head.now (planes_of source.now) (planes_in stripe.old) (length records.old) }
-    ensures planes { planes_in stripe.new ≡ slice_built place.now.across head.now.first_mb records.new (planes_in stripe.old) }
+    ensures planes { planes_in stripe.new ≡ slice_built place.now.across no_sources head.now.first_mb records.new (planes_in stripe.old) }
     ensures opened { Opened (string_at place.now head.now) (length records.old) records.new (seen coder.old contexts.old) (seen coder.new contexts.new) }
 {
     for n in 0..records.len() {

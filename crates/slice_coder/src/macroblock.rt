@@ -4,6 +4,7 @@ ghost use Rattle.std.specs.List.{All};
 ghost use Rattle.enc_tables.specs.declared.records.MbPlan.{MbPlan};
 ghost use Rattle.enc_tables.specs.declared.plans.RowPlan.{RowPlan};
 ghost use Rattle.picture_planes.specs.Pictures.{SameShapes, planes_of};
+ghost use Rattle.spec_built.specs.Inter.{no_sources};
 ghost use Rattle.spec_built.specs.Records.{intra_built, macroblock_built, site_of};
 ghost use Rattle.spec_built.specs.Slices.{coded_record, is_8x8};
 ghost use Rattle.spec_records.specs.Coded.{ModesFit};
@@ -93,7 +94,7 @@ pub fn code_record(
     ensures begins { stripe.new.first ≡ stripe.old.first }
     ensures shapes { SameShapes stripe.old.picture.now stripe.new.picture.now }
     ensures record { result ≡ coded_record place.now.across (site_of place.now.across head.now.first_mb (head.now.first_mb + n) head.now.qp) (kind_at place.now head.now.qp (planes_of source.now) (head.now.first_mb + n)) (plan_at place.now (planes_of source.now) (head.now.first_mb + n)) (planes_of source.now) (planes_in stripe.old) }
-    ensures planes { planes_in stripe.new ≡ macroblock_built place.now.across head.now.first_mb (head.now.first_mb + n) result (planes_in stripe.old) }
+    ensures planes { planes_in stripe.new ≡ macroblock_built place.now.across no_sources head.now.first_mb (head.now.first_mb + n) result (planes_in stripe.old) }
 {
     sites_stand();
     let plan = plan_of(plans, place.across, n);

@@ -2,7 +2,7 @@
 ghost use Rattle.std.specs.Prelude.{◌≡◌, ◌≤◌, ◌<◌, ◌+◌, ◌-◌, ◌%◌, ◌==◌, ◌||◌, length, get_or, None, Some, if◌then◌else◌, nat_lt};
 ghost use Rattle.enc_tables.specs.declared.records.MbRecord.{MbRecord};
 ghost use Rattle.spec_contexts.specs.Near.{pointed};
-ghost use Rattle.spec_macroblock.specs.Near.{no_record};
+ghost use Rattle.spec_partitions.specs.Near.{no_record};
 ghost use Rattle.mb_syntax.specs.Around.{near_of};
 ghost use Rattle.slice_coder.specs.Strings.{near_at, Follows};
 
@@ -48,8 +48,8 @@ pub fn around_of<'a>(before: &'a [MbRecord], head: &SliceHead, place: &Place) ->
         above: above_of(before, place.across),
         last_delta: false,
         kind: head.kind,
-        refs0: 0,
-        refs1: 0,
+        refs0: head.refs0,
+        refs1: head.refs1,
         t8x8: place.t8x8,
     }
 }

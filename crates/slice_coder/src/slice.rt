@@ -1,7 +1,10 @@
 // A whole slice.
-ghost use Rattle.std.specs.Prelude.{◌≡◌, ◌≤◌, ◌<◌, ◌-◌, ◌*◌, ◌/◌, [], length, OnOk, Some};
+ghost use Rattle.std.specs.Prelude.{◌≡◌, ◌≤◌, ◌<◌, ◌-◌, ◌*◌, ◌/◌, [], length, OnOk, Some, true};
 ghost use Rattle.picture_planes.specs.Pictures.{SameShapes, planes_of};
+ghost use Rattle.spec_lists.specs.Lists.{no_lists};
+ghost use Rattle.spec_lists.specs.Colocated.{colocated_at};
 ghost use Rattle.spec_slice_layer.specs.Layer.{IsIdrHead, IsSlice, layer_bits, layer_payload, read_layer};
+ghost use Rattle.spec_built.specs.Inter.{no_sources};
 ghost use Rattle.spec_built.specs.Records.{slice_built};
 ghost use Rattle.intra_coder.specs.Stripes.{planes_in};
 ghost use Rattle.slice_coder.specs.Plans.{ArePlanned, HoldsRows, IsWhole, place_of, format_of, records_to, coded};
@@ -49,11 +52,11 @@ pub fn code_slice(
     ensures shapes { SameShapes stripe.old.picture.now stripe.new.picture.now }
     ensures payload { Leaves result.0 buf.room buf.made (layer_bits (format_of source.now t8x8) (coded (place_of source.now rows.0 t8x8) head.now (planes_of source.now) (planes_in stripe.old) (length records.old))) result.1 }
     ensures records { OnOk result.0 (records.new ≡ records_to (place_of source.now rows.0 t8x8) head.now (planes_of source.now) (planes_in stripe.old) (length records.old)) }
-    ensures planes { OnOk result.0 (planes_in stripe.new ≡ slice_built (source.now.y.width / 16) head.now.first_mb records.new (planes_in stripe.old)) }
+    ensures planes { OnOk result.0 (planes_in stripe.new ≡ slice_built (source.now.y.width / 16) no_sources head.now.first_mb records.new (planes_in stripe.old)) }
 
     // The slice is one of the syntax, and its payload is read back as itself.
-    ensures slice { IsSlice (format_of source.now t8x8) (coded (place_of source.now rows.0 t8x8) head.now (planes_of source.now) (planes_in stripe.old) (length records.old)) }
-    ensures read_back { read_layer (format_of source.now t8x8) (layer_payload (format_of source.now t8x8) (coded (place_of source.now rows.0 t8x8) head.now (planes_of source.now) (planes_in stripe.old) (length records.old))) ≡ Some (coded (place_of source.now rows.0 t8x8) head.now (planes_of source.now) (planes_in stripe.old) (length records.old)) }
+    ensures slice { IsSlice (format_of source.now t8x8) (colocated_at no_lists) true (coded (place_of source.now rows.0 t8x8) head.now (planes_of source.now) (planes_in stripe.old) (length records.old)) }
+    ensures read_back { read_layer (format_of source.now t8x8) true [] (layer_payload (format_of source.now t8x8) (coded (place_of source.now rows.0 t8x8) head.now (planes_of source.now) (planes_in stripe.old) (length records.old))) ≡ Some (coded (place_of source.now rows.0 t8x8) head.now (planes_of source.now) (planes_in stripe.old) (length records.old)) }
 {
     samples_fit(source);
     stripe_fits(stripe);

@@ -4,6 +4,7 @@ use Rattle.picture_planes.specs.Pictures.{planes_of}
 use Rattle.spec_film.specs.Films.{Planes}
 use Rattle.spec_slice_layer.specs.Layer.{layer_bits}
 use Rattle.intra_coder.specs.Stripes.{planes_in}
+use Rattle.spec_built.specs.Inter.{no_sources}
 use Rattle.spec_built.specs.Records.{slice_built}
 use Rattle.slice_coder.specs.Left.{Leaves}
 use Rattle.slice_coder.specs.Plans.{place_of, records_to}
@@ -76,6 +77,6 @@ returns-clause-coded c =
     slice_coded c.args.coding.now c.args.source.now c.args.slice c.rows_of-rows.result.0 c.rows_of-rows.result.1 n c.macroblocks_of-from.result.0 c.macroblocks_of-from.result.1 c.head_for-head.result (planes_of c.args.source.now) (planes_of c.args.picture.now) (planes_of c.code_slice.new.stripe.picture.now) c.args.records.now c.code_slice.new.records
     given c.macroblocks_of-from.ensures.from c.macroblocks_of-from.ensures.to c.macroblocks_of-from.ensures.order (omega (arith, inside, c.requires.records))
     (records ∙ ap (λ (p : Planes). records_to (place_of c.args.source.now c.rows_of-rows.result.0 c.args.coding.now.t8x8) c.head_for-head.result (planes_of c.args.source.now) p n) before)
-    (sym after ∙ planes ∙ ap (λ (p : Planes). slice_built (c.args.source.now.y.width / 16) c.head_for-head.result.first_mb c.code_slice.new.records p) before))
+    (sym after ∙ planes ∙ ap (λ (p : Planes). slice_built (c.args.source.now.y.width / 16) no_sources c.head_for-head.result.first_mb c.code_slice.new.records p) before))
     c.code_slice.ensures.records c.code_slice.ensures.planes in
     search (rules, told)

@@ -48,13 +48,13 @@ write_behind-requires-clause-few c =
 pub write_behind-requires-clause-follows : goal.write_behind-requires-clause-follows
 write_behind-requires-clause-follows c =
     let is = next_is c.args.place.now c.args.head.now (planes_of c.args.source.now) (planes_in c.args.stripe.now) c.loop-n.n c.code_record-record.result (planes_in c.loop-n.stripe) c.loop-n.invariant.built c.code_record-record.ensures.record in
-    next_follows c.args.place.now c.args.head.now (planes_of c.args.source.now) (planes_in c.args.stripe.now) c.loop-n.n c.code_record-record.result (take c.loop-n.n c.loop-n.records) c.requires.head c.requires.source_fits
+    next_follows c.args.place.now c.args.head.now (planes_of c.args.source.now) (planes_in c.args.stripe.now) c.loop-n.n c.code_record-record.result (take c.loop-n.n c.loop-n.records) c.requires.head c.requires.first c.requires.source_fits
     c.requires.built_fits c.loop-n.invariant.coded is
 
 pub write_behind-requires-clause-record_ : goal.write_behind-requires-clause-record_
 write_behind-requires-clause-record_ c =
     let is = next_is c.args.place.now c.args.head.now (planes_of c.args.source.now) (planes_in c.args.stripe.now) c.loop-n.n c.code_record-record.result (planes_in c.loop-n.stripe) c.loop-n.invariant.built c.code_record-record.ensures.record in
-    next_fits c.args.place.now c.args.head.now (planes_of c.args.source.now) (planes_in c.args.stripe.now) c.loop-n.n c.code_record-record.result (take c.loop-n.n c.loop-n.records) c.requires.head c.requires.source_fits
+    next_fits c.args.place.now c.args.head.now (planes_of c.args.source.now) (planes_in c.args.stripe.now) c.loop-n.n c.code_record-record.result (take c.loop-n.n c.loop-n.records) c.requires.head c.requires.first c.requires.source_fits
     c.requires.built_fits c.loop-n.invariant.coded is
 
 pub loop-n-preserved : goal.loop-n-preserved

@@ -1,6 +1,7 @@
 use Rattle.std.proofs.Common.{◌≡◌, length, take}
 use Rattle.intra_coder.specs.Stripes.{planes_in}
 use Rattle.picture_planes.specs.Pictures.{SameShapes, planes_of}
+use Rattle.spec_built.specs.Inter.{no_sources}
 use Rattle.spec_built.specs.Records.{slice_built}
 use Rattle.bin_writer.specs.Coding.{seen}
 use Rattle.slice_coder.specs.Plans.{records_to}
@@ -14,6 +15,6 @@ invariant-loop-n l = record {
   begins : l.stripe.first ≡ l.fn.stripe.first;
   shapes : SameShapes l.fn.stripe.picture.now l.stripe.picture.now;
   coded : take l.n l.records ≡ records_to l.place l.head (planes_of l.source) (planes_in l.fn.stripe) l.n;
-  built : planes_in l.stripe ≡ slice_built l.place.across l.head.first_mb (records_to l.place l.head (planes_of l.source) (planes_in l.fn.stripe) l.n) (planes_in l.fn.stripe);
+  built : planes_in l.stripe ≡ slice_built l.place.across no_sources l.head.first_mb (records_to l.place l.head (planes_of l.source) (planes_in l.fn.stripe) l.n) (planes_in l.fn.stripe);
   opened : Opened (string_at l.place l.head) (length l.fn.records) (records_to l.place l.head (planes_of l.source) (planes_in l.fn.stripe) l.n) (seen l.fn.coder l.fn.contexts) (seen l.coder l.contexts);
 }

@@ -1,9 +1,9 @@
-use Rattle.std.proofs.Common.{◌≡◌, ℕ, ◌+◌, ◌*◌, ◌/◌, length, arith, refl, sym, subst, ◌∙◌, Err}
+use Rattle.std.proofs.Common.{◌≡◌, ℕ, ◌+◌, ◌*◌, ◌/◌, length, arith, refl, sym, subst, ◌∙◌, Err, []}
 use Rattle.std.proofs.lemmas.Bool.{false≢true}
 use Rattle.intra_coder.specs.Stripes.{planes_in}
 use Rattle.picture_planes.specs.Pictures.{planes_of}
 use Rattle.spec_bits.specs.Heads.{slice_head_bits}
-use Rattle.spec_slice_layer.proofs.Layers.{layer_back}
+use Rattle.spec_slice_layer.proofs.Layers.{idr_layer_back}
 use Rattle.slice_coder.specs.Plans.{HoldsRows, place_of, format_of, coded}
 use Rattle.slice_coder.proofs.Shapes.{slice_ends, some_macroblocks, some_across}
 use Rattle.slice_coder.proofs.Layers.{head_allowed, is_slice_of}
@@ -38,7 +38,7 @@ returns-then-is_err-clause-slice c =
 
 pub returns-then-is_err-clause-read_back : goal.returns-then-is_err-clause-read_back
 returns-then-is_err-clause-read_back c =
-    layer_back (format_of c.args.source.now c.args.t8x8) (coded (place_of c.args.source.now c.args.rows.0 c.args.t8x8) c.args.head.now (planes_of c.args.source.now) (planes_in c.args.stripe.now) (length c.args.records.now))
+    idr_layer_back (format_of c.args.source.now c.args.t8x8) [] (coded (place_of c.args.source.now c.args.rows.0 c.args.t8x8) c.args.head.now (planes_of c.args.source.now) (planes_in c.args.stripe.now) (length c.args.records.now))
     (is_slice_of c.args.source.now c.args.t8x8 c.args.head.now (planes_of c.args.source.now) (planes_in c.args.stripe.now) c.args.rows.0 c.args.rows.1 (length c.args.records.now) c.requires.whole c.requires.rows.0 c.requires.rows.1
     c.requires.head c.requires.first c.requires.records c.samples_fit.ensures c.stripe_fits.ensures)
 
@@ -49,7 +49,7 @@ returns-clause-slice c =
 
 pub returns-clause-read_back : goal.returns-clause-read_back
 returns-clause-read_back c =
-    layer_back (format_of c.args.source.now c.args.t8x8) (coded (place_of c.args.source.now c.args.rows.0 c.args.t8x8) c.args.head.now (planes_of c.args.source.now) (planes_in c.args.stripe.now) (length c.args.records.now))
+    idr_layer_back (format_of c.args.source.now c.args.t8x8) [] (coded (place_of c.args.source.now c.args.rows.0 c.args.t8x8) c.args.head.now (planes_of c.args.source.now) (planes_in c.args.stripe.now) (length c.args.records.now))
     (is_slice_of c.args.source.now c.args.t8x8 c.args.head.now (planes_of c.args.source.now) (planes_in c.args.stripe.now) c.args.rows.0 c.args.rows.1 (length c.args.records.now) c.requires.whole c.requires.rows.0 c.requires.rows.1
     c.requires.head c.requires.first c.requires.records c.samples_fit.ensures c.stripe_fits.ensures)
 

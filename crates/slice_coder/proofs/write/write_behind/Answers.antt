@@ -1,5 +1,5 @@
 use Rattle.std.proofs.Common.{sym, subst}
-use Rattle.spec_macroblock.specs.Near.{Near}
+use Rattle.spec_partitions.specs.Near.{Near}
 use Rattle.spec_macroblock.specs.Records.{IsRecord}
 use Rattle.spec_macroblock.specs.Strings.{macroblock_string}
 use Rattle.bin_writer.specs.Coding.{seen, Codes}
