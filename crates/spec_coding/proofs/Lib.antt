@@ -1,0 +1,5 @@
+pub mod Going
+pub mod Passing
+pub mod Choosing
+pub mod Groups
+mod Rows

@@ -1,0 +1,5 @@
+pub mod Follow
+pub mod Places
+pub mod Lists
+pub mod Held
+mod Rows
