@@ -4,7 +4,5 @@
 mod coder;
 mod interval;
 mod pending;
-#[cfg(test)]
-mod tests;
 
 pub use coder::Coder;

@@ -8,8 +8,6 @@ mod kinds;
 mod motion;
 mod near;
 mod states;
-#[cfg(test)]
-mod tests;
 
 pub use coded::inc_coded;
 pub use increments::{

@@ -11,6 +11,3 @@ pub use full::{read_full, write_full};
 pub use memory::{MemStudio, Standing};
 pub use real::RealStudio;
 pub use studio::{Failed, Gate, OpenGate, Out, Place, Studio};
-
-#[cfg(test)]
-mod tests;

@@ -12,8 +12,6 @@ mod near;
 mod parts;
 mod places;
 mod site;
-#[cfg(test)]
-mod tests;
 
 pub use macroblock::{code_intra4, code_intra8, code_intra16};
 pub use site::{site_of, sites_stand};

@@ -8,8 +8,6 @@ mod lines;
 mod means;
 mod planes;
 mod predictions;
-#[cfg(test)]
-mod tests;
 
 pub use allow::allowed;
 pub use lines::{Line4, Line8};

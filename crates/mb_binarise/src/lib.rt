@@ -7,8 +7,6 @@ mod inter;
 mod levels;
 mod macroblock;
 mod push;
-#[cfg(test)]
-mod tests;
 mod types;
 
 pub use inter::{bins_mvd, bins_ref, bins_skip, bins_sub_type};

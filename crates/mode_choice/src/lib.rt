@@ -6,7 +6,5 @@ mod difference;
 mod macroblock;
 mod modes;
 mod rows;
-#[cfg(test)]
-mod tests;
 
 pub use rows::plan_row;

@@ -5,8 +5,6 @@ mod direct;
 mod neighbours;
 mod prediction;
 mod skip;
-#[cfg(test)]
-mod tests;
 
 pub use direct::direct_motion;
 pub use prediction::predict;

@@ -8,6 +8,3 @@ mod predict;
 mod rows;
 
 pub use predict::{chroma_block, luma_block};
-
-#[cfg(test)]
-mod tests;

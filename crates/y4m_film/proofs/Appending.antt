@@ -8,6 +8,7 @@ use Rattle.enc_edge.specs.Seen.{Seen}
 use Rattle.enc_edge.specs.Calls.{wrote, LaterFailed}
 use Rattle.picture_planes.specs.declared.plane.Plane.{Plane}
 use Rattle.picture_planes.specs.Samples.{row_of, rows_to, samples_of}
+use Rattle.y4m_film.specs.Waits.{Gathered}
 use Rattle.y4m_film.specs.Writes.{FrontWritten}
 
 behind : (o : Option (List ℕ)) (xs ys : List ℕ) → option_map (λ zs. zs ++ ys) (option_map (λ zs. zs ++ xs) o) ≡ option_map (λ zs. zs ++ (xs ++ ys)) o
@@ -62,15 +63,57 @@ front_then out xs ys old mid new e f = record {
 pub then_wrote : (out : Out) (xs ys : List ℕ) (old mid new : Seen) → mid ≡ wrote (Output out) xs old → new ≡ wrote (Output out) ys mid → new ≡ wrote (Output out) (xs ++ ys) old
 then_wrote out xs ys old mid new e f = f ∙ ap (λ (s : Seen). wrote (Output out) ys s) e ∙ wrote_then out xs ys old
 
+-- ---- bytes that wait
+
+-- nothing came
+pub gathered_none : (out : Out) (before : List ℕ) (s : Seen) → Gathered out before [] before s s
+gathered_none out before s = record { front = []; parts = sym (append-nil before); written = sym (wrote_nothing out s) }
+
+-- all bytes wait
+pub gathered_behind : (out : Out) (before bytes after : List ℕ) (s : Seen) → after ≡ before ++ bytes → Gathered out before bytes after s s
+gathered_behind out before bytes after s e = record { front = []; parts = e; written = sym (wrote_nothing out s) }
+
+-- all bytes were written
+pub gathered_written : (out : Out) (before bytes all after : List ℕ) (old new : Seen) → all ≡ before ++ bytes → after ≡ [] → new ≡ wrote (Output out) all old → Gathered out before bytes after old new
+gathered_written out before bytes all after old new e none w = record { front = all; parts = ap (λ xs. all ++ xs) none ∙ append-nil all ∙ e; written = w }
+
+pub gathered_then : (out : Out) (before xs mid ys after : List ℕ) (old between new : Seen) → Gathered out before xs mid old between → Gathered out mid ys after between new → Gathered out before (xs ++ ys) after old new
+gathered_then out before xs mid ys after old between new g h = record {
+  front = g.front ++ h.front;
+  parts =
+      append_assoc g.front h.front after ∙ ap (λ zs. g.front ++ zs) h.parts ∙ sym (append_assoc g.front mid ys)
+      ∙ ap (λ zs. zs ++ ys) g.parts ∙ append_assoc before xs ys;
+  written = then_wrote out g.front h.front old between new g.written h.written;
+}
+
+-- what waits was written too
+pub gathered_all : (out : Out) (before xs after : List ℕ) (old between new : Seen) → Gathered out before xs after old between → new ≡ wrote (Output out) after between → new ≡ wrote (Output out) (before ++ xs) old
+gathered_all out before xs after old between new g w = then_wrote out g.front after old between new g.written w ∙ ap (λ zs. wrote (Output out) zs old) g.parts
+
+-- a write failed of what waited
+pub gathered_failed : (out : Out) (before xs after : List ℕ) (old between new : Seen) → Gathered out before xs after old between → FrontWritten out after between new → FrontWritten out (before ++ xs) old new
+gathered_failed out before xs after old between new g f = subst (λ zs. FrontWritten out zs old new) g.parts (front_then out g.front after old between new g.written f)
+
+-- a write failed of what waited and of what came
+pub gathered_then_failed : (out : Out) (before xs mid ys : List ℕ) (old between new : Seen) → Gathered out before xs mid old between → FrontWritten out (mid ++ ys) between new → FrontWritten out (before ++ (xs ++ ys)) old new
+gathered_then_failed out before xs mid ys old between new g f =
+    subst (λ zs. FrontWritten out zs old new) (sym (append_assoc g.front mid ys) ∙ ap (λ zs. zs ++ ys) g.parts ∙ append_assoc before xs ys)
+    (front_then out g.front (mid ++ ys) old between new g.written f)
+
+-- more would have come
+pub front_more : (out : Out) (before xs ys : List ℕ) (old new : Seen) → FrontWritten out (before ++ xs) old new → FrontWritten out (before ++ (xs ++ ys)) old new
+front_more out before xs ys old new f = subst (λ zs. FrontWritten out zs old new) (append_assoc before xs ys) (front_first out (before ++ xs) ys old new f)
+
 -- ---- the rows of a plane
 
--- the first n rows were written
-pub record RowsWritten (out : Out) (p : Plane) (n : ℕ) (old new : Seen) : Type 0 where
-  pub is : new ≡ wrote (Output out) (rows_to p n) old
+-- the first n rows came
+pub record RowsGathered (out : Out) (p : Plane) (n count : ℕ) (before after : List ℕ) (old new : Seen) : Type 0 where
+  pub rows : Gathered out before (rows_to p n) after old new
+  pub room : count < 65536
 
-pub no_row_written : (out : Out) (p : Plane) (old : Seen) → RowsWritten out p 0 old old
+pub no_row : (out : Out) (p : Plane) (count : ℕ) (before : List ℕ) (s : Seen) → count < 65536 → RowsGathered out p 0 count before before s s
 unfolding rows_to
-no_row_written out p old = record { is = sym (wrote_nothing out old) }
+no_row out p count before s room = record { rows = gathered_none out before s; room = room }
 
 rows_suc : (p : Plane) (n : ℕ) → rows_to p (suc n) ≡ rows_to p n ++ row_of p n
 unfolding rows_to
@@ -82,14 +125,16 @@ rows_more p n = ap (λ m. rows_to p m) (one n) ∙ rows_suc p n
     one : (n : ℕ) → n + 1 ≡ suc n
     one n = omega arith
 
-pub row_written : (out : Out) (p : Plane) (n : ℕ) (bytes : List ℕ) (old mid new : Seen) → RowsWritten out p n old mid → bytes ≡ row_of p n → new ≡ wrote (Output out) bytes mid → RowsWritten out p (n + 1) old new
-row_written out p n bytes old mid new r e w = record {
-  is = then_wrote out (rows_to p n) bytes old mid new r.is w ∙ ap (λ xs. wrote (Output out) xs old) (ap (λ xs. rows_to p n ++ xs) e ∙ sym (rows_more p n));
+pub row_gathered : (out : Out) (p : Plane) (n less count : ℕ) (bytes before mid after : List ℕ) (old between new : Seen)
+    → RowsGathered out p n less before mid old between → bytes ≡ row_of p n → Gathered out mid bytes after between new → count < 65536 → RowsGathered out p (n + 1) count before after old new
+row_gathered out p n less count bytes before mid after old between new r e g room = record {
+  rows = subst (λ xs. Gathered out before xs after old new) (ap (λ xs. rows_to p n ++ xs) e ∙ sym (rows_more p n)) (gathered_then out before (rows_to p n) mid bytes after old between new r.rows g);
+  room = room;
 }
 
-pub all_rows_written : (out : Out) (p : Plane) (n : ℕ) (old new : Seen) → RowsWritten out p n old new → n ≡ p.height → new ≡ wrote (Output out) (samples_of p) old
+pub all_rows : (out : Out) (p : Plane) (n count : ℕ) (before after : List ℕ) (old new : Seen) → RowsGathered out p n count before after old new → n ≡ p.height → Gathered out before (samples_of p) after old new
 unfolding samples_of
-all_rows_written out p n old new r e = r.is ∙ ap (λ m. wrote (Output out) (rows_to p m) old) e
+all_rows out p n count before after old new r e = subst (λ m. Gathered out before (rows_to p m) after old new) e r.rows
 
 rows_behind : Plane → ℕ → ℕ → List ℕ
 rows_behind p n zero = []
@@ -107,14 +152,20 @@ rows_split p n (suc k) =
     more : (n k : ℕ) → n + suc k ≡ n + k + 1
     more n k = omega arith
 
--- a write failed in a row
-pub row_failed : (out : Out) (p : Plane) (n : ℕ) (bytes : List ℕ) (old mid new : Seen) → RowsWritten out p n old mid → n < p.height → bytes ≡ row_of p n → FrontWritten out bytes mid new → FrontWritten out (samples_of p) old new
+-- a row and all rows behind it
+rows_whole : (p : Plane) (n : ℕ) → n < p.height → (rows_to p n ++ row_of p n) ++ rows_behind p (n + 1) (p.height - (n + 1)) ≡ samples_of p
 unfolding samples_of
-row_failed out p n bytes old mid new r within e f =
-    subst (λ xs. FrontWritten out xs old new)
-    (ap (λ xs. (rows_to p n ++ xs) ++ rows_behind p (n + 1) (p.height - (n + 1))) e ∙ ap (λ xs. xs ++ rows_behind p (n + 1) (p.height - (n + 1))) (sym (rows_more p n))
-    ∙ sym (rows_split p (n + 1) (p.height - (n + 1))) ∙ ap (λ m. rows_to p m) (whole n p.height within))
-    (front_first out (rows_to p n ++ bytes) (rows_behind p (n + 1) (p.height - (n + 1))) old new (front_then out (rows_to p n) bytes old mid new r.is f))
+rows_whole p n within =
+    ap (λ xs. xs ++ rows_behind p (n + 1) (p.height - (n + 1))) (sym (rows_more p n))
+    ∙ sym (rows_split p (n + 1) (p.height - (n + 1))) ∙ ap (λ m. rows_to p m) (whole n p.height within)
   where
     whole : (n m : ℕ) → n < m → n + 1 + (m - (n + 1)) ≡ m
     whole n m h = omega (arith, h)
+
+-- a write failed in a row
+pub row_failed : (out : Out) (p : Plane) (n count : ℕ) (bytes before mid : List ℕ) (old between new : Seen)
+    → RowsGathered out p n count before mid old between → n < p.height → bytes ≡ row_of p n → FrontWritten out (mid ++ bytes) between new → FrontWritten out (before ++ samples_of p) old new
+row_failed out p n count bytes before mid old between new r within e f =
+    subst (λ xs. FrontWritten out (before ++ xs) old new)
+    (ap (λ xs. (rows_to p n ++ xs) ++ rows_behind p (n + 1) (p.height - (n + 1))) e ∙ rows_whole p n within)
+    (front_more out before (rows_to p n ++ bytes) (rows_behind p (n + 1) (p.height - (n + 1))) old new (gathered_then_failed out before (rows_to p n) mid bytes old between new r.rows f))

@@ -1,6 +1,6 @@
 -- A line is read byte by byte.
 use Rattle.std.proofs.Common.{ℕ, ◌+◌, ◌≡◌, ◌<◌, ◌≤◌, min, List, length, take, drop, get_or, Option, Some, None, Bool, true, false, cond, refl, ap, sym, ◌∙◌, arith, subst, length-drop}
-use Rattle.std.specs.Prelude.{Result, Ok, Err, IfErr, IfSome, nat_le, ◌≢◌}
+use Rattle.std.specs.Prelude.{Result, Ok, Err, IfOk, IfErr, IfSome, nat_le, ◌≢◌}
 use Rattle.std.specs.List.{position_or_len, before_first}
 use Rattle.std.specs.Option.{option_map}
 use Rattle.std.proofs.lemmas.Bool.Decides.{nat_tests}
@@ -186,3 +186,11 @@ if_err (Err e) x = x
 pub err_then : {A E X Y : Type 0} (r : Result A E) → (X → Y) → IfErr r (λ _. X) → IfErr r (λ _. Y)
 err_then (Ok a) f x = tt
 err_then (Err e) f x = f x
+
+pub ok_then : {A E X Y : Type 0} (r : Result A E) → (X → Y) → IfOk r (λ _. X) → IfOk r (λ _. Y)
+ok_then (Ok a) f x = f x
+ok_then (Err e) f x = tt
+
+pub ok_both : {A E X Y Z : Type 0} (r : Result A E) → (X → Y → Z) → IfOk r (λ _. X) → IfOk r (λ _. Y) → IfOk r (λ _. Z)
+ok_both (Ok a) f x y = f x y
+ok_both (Err e) f x y = tt

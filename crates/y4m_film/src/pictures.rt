@@ -9,6 +9,7 @@ ghost use Rattle.picture_planes.specs.Samples.{samples_of, SameShape};
 ghost use Rattle.picture_planes.specs.Pictures.{planes_of, SameShapes};
 ghost use Rattle.y4m_film.specs.Sizes.{FitsHead};
 
+use crate::pieces::PIECE;
 use enc_edge::{Failed, Studio, read_full};
 use picture_planes::{Picture, Plane};
 use spec_film::FilmHead;
@@ -27,9 +28,6 @@ pub enum FrameFault {
 
 // The most pictures that a film has.
 const MOST_PICTURES: u32 = 1_000_000;
-
-// How many bytes are read at once.
-const PIECE: usize = 65_536;
 
 // Reads whole rows from row `first` on, as many as `piece` has room for; `false` where the input has fewer.
 fn read_rows<S: Studio>(

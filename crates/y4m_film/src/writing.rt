@@ -1,12 +1,14 @@
 // Films are written: the head, and then picture by picture.
-ghost use Rattle.std.specs.Prelude.{◌≡◌, ◌++◌, IfOk, IfErr};
+ghost use Rattle.std.specs.Prelude.{◌≡◌, ◌<◌, ◌++◌, IfOk, IfErr};
 ghost use Rattle.enc_edge.specs.Calls.{wrote};
 ghost use Rattle.enc_edge.specs.declared.studio.Place.{Place};
 ghost use Rattle.spec_film.specs.Written.{head_text, picture_text};
 ghost use Rattle.picture_planes.specs.Samples.{samples_of};
 ghost use Rattle.picture_planes.specs.Pictures.{planes_of};
+ghost use Rattle.y4m_film.specs.Waits.{waits, Gathered};
 ghost use Rattle.y4m_film.specs.Writes.{FrontWritten};
 
+use crate::pieces::Waiting;
 use arrayvec::ArrayString;
 use enc_edge::{Failed, Out, Studio, write_full};
 use itoa::Buffer;
@@ -32,17 +34,6 @@ fn head_line(head: &FilmHead) -> ArrayString<80>
     line
 }
 
-// Appends all of the bytes; where a write fails, a front of them was appended.
-fn put<S: Studio>(studio: &mut S, out: Out, bytes: &[u8]) -> Result<(), Failed>
-    ensures ok { IfOk result (λ _. S.seen studio.new ≡ wrote (Place.Output out) bytes.now (S.seen studio.old)) }
-    ensures err { IfErr result (λ _. FrontWritten out bytes.now (S.seen studio.old) (S.seen studio.new)) }
-{
-    match write_full(studio, out, bytes) {
-        Ok(()) => Ok(()),
-        Err((_, failed)) => Err(failed),
-    }
-}
-
 /// Appends the head of a film to an output: the line `YUV4MPEG2 W<width> H<height> F<num>:<den> Ip C420`. `Failed`: a write failed, so the
 /// count of later faults of that output rose, and a front of the line was appended.
 pub fn put_head<S: Studio>(studio: &mut S, out: Out, head: &FilmHead) -> Result<(), Failed>
@@ -50,37 +41,56 @@ pub fn put_head<S: Studio>(studio: &mut S, out: Out, head: &FilmHead) -> Result<
     ensures err { IfErr result (λ _. FrontWritten out (head_text head.now) (S.seen studio.old) (S.seen studio.new)) }
 {
     let line = head_line(head);
-    put(studio, out, line.as_bytes())
+    match write_full(studio, out, line.as_bytes()) {
+        Ok(()) => Ok(()),
+        Err((_, failed)) => Err(failed),
+    }
 }
 
-// Appends the samples of a plane, row by row.
-fn put_plane<S: Studio>(studio: &mut S, out: Out, plane: &Plane) -> Result<(), Failed>
-    ensures ok { IfOk result (λ _. S.seen studio.new ≡ wrote (Place.Output out) (samples_of plane.now) (S.seen studio.old)) }
-    ensures err { IfErr result (λ _. FrontWritten out (samples_of plane.now) (S.seen studio.old) (S.seen studio.new)) }
+// Hands on the samples of a plane, row by row.
+fn put_plane<S: Studio>(
+    studio: &mut S,
+    out: Out,
+    waiting: &mut Waiting,
+    plane: &Plane,
+) -> Result<(), Failed>
+    requires room { waiting.old.count < 65536 }
+    ensures ok { IfOk result (λ _. Gathered out (waits waiting.old) (samples_of plane.now) (waits waiting.new) (S.seen studio.old) (S.seen studio.new)) }
+    ensures room { IfOk result (λ _. waiting.new.count < 65536) }
+    ensures err { IfErr result (λ _. FrontWritten out (waits waiting.old ++ samples_of plane.now) (S.seen studio.old) (S.seen studio.new)) }
 {
     for y in 0..plane.height {
-        put(studio, out, plane.row(y))?;
+        waiting.gather(studio, out, plane.row(y))?;
     }
     Ok(())
 }
 
-// Appends the samples of a picture's planes.
-fn put_planes<S: Studio>(studio: &mut S, out: Out, picture: &Picture) -> Result<(), Failed>
-    ensures ok { IfOk result (λ _. S.seen studio.new ≡ wrote (Place.Output out) (samples_of picture.now.y ++ (samples_of picture.now.cb ++ samples_of picture.now.cr)) (S.seen studio.old)) }
-    ensures err { IfErr result (λ _. FrontWritten out (samples_of picture.now.y ++ (samples_of picture.now.cb ++ samples_of picture.now.cr)) (S.seen studio.old) (S.seen studio.new)) }
+// Hands on the samples of a picture's planes.
+fn put_planes<S: Studio>(
+    studio: &mut S,
+    out: Out,
+    waiting: &mut Waiting,
+    picture: &Picture,
+) -> Result<(), Failed>
+    requires room { waiting.old.count < 65536 }
+    ensures ok { IfOk result (λ _. Gathered out (waits waiting.old) (samples_of picture.now.y ++ (samples_of picture.now.cb ++ samples_of picture.now.cr)) (waits waiting.new) (S.seen studio.old) (S.seen studio.new)) }
+    ensures err { IfErr result (λ _. FrontWritten out (waits waiting.old ++ (samples_of picture.now.y ++ (samples_of picture.now.cb ++ samples_of picture.now.cr))) (S.seen studio.old) (S.seen studio.new)) }
 {
-    put_plane(studio, out, &picture.y)?;
-    put_plane(studio, out, &picture.cb)?;
-    put_plane(studio, out, &picture.cr)
+    put_plane(studio, out, waiting, &picture.y)?;
+    put_plane(studio, out, waiting, &picture.cb)?;
+    put_plane(studio, out, waiting, &picture.cr)
 }
 
-/// Appends a picture of a film to an output: the line `FRAME` and the samples of the three planes. `Failed`: a write failed, so the count
-/// of later faults of that output rose, and a front of these bytes was appended.
+/// Appends a picture of a film to an output: the line `FRAME` and the samples of the three planes, in pieces of 65,536 bytes or more but
+/// for the last one. `Failed`: a write failed, so the count of later faults of that output rose, and a front of these bytes was
+/// appended.
 #[tactic(auto, unfolding(spec_film::specs::Written::picture_text))]
 pub fn put_picture<S: Studio>(studio: &mut S, out: Out, picture: &Picture) -> Result<(), Failed>
     ensures ok { IfOk result (λ _. S.seen studio.new ≡ wrote (Place.Output out) (picture_text (planes_of picture.now)) (S.seen studio.old)) }
     ensures err { IfErr result (λ _. FrontWritten out (picture_text (planes_of picture.now)) (S.seen studio.old) (S.seen studio.new)) }
 {
-    put(studio, out, b"FRAME\n")?;
-    put_planes(studio, out, picture)
+    let mut waiting = Waiting::new();
+    waiting.add(b"FRAME\n");
+    put_planes(studio, out, &mut waiting, picture)?;
+    waiting.put(studio, out)
 }

@@ -1,0 +1,5 @@
+//! Tests of the commands over files.
+#![tactic(auto)]
+
+#[cfg(test)]
+mod files;
