@@ -1,4 +1,4 @@
-// A plain arithmetic coder in C, timed beside the proved one. It reads the lines that `time_bins` reads and prints the line that it
+// A plain arithmetic coder in C, timed beside the proved one. It reads the lines that `tool_time bins` reads and prints the line that it
 // prints.
 //
 // usage: cabac bytes|bits TIMES <BINS

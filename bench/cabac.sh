@@ -3,25 +3,16 @@
 # all in this run, and prints bins per second and the ratios. The reference says which bins a film that is made here has; its own coder
 # is timed inside its runs, by valgrind and perf, and left out where these aren't installed.
 #
-# usage: bench/cabac.sh REFERENCE
-set -eu
-cd "$(dirname "$0")/.."
-reference=$(realpath "$1")
-folder=$(mktemp -d)
-trap 'rm -rf "$folder"' EXIT
-# The build ends with a run whose words the program refuses.
-(cd crates/time_bins && rt run -- no number) >"$folder/log" 2>&1 </dev/null || true
-if [ ! -x crates/time_bins/out/time_bins ]; then
-    cat "$folder/log" >&2
-    exit 1
-fi
-python3 - "$folder" "$reference" "$PWD" <<'PY'
+# usage: bench/cabac.sh
+. "$(dirname "$0")/../tools/common.sh"
+need_reference
+build tool_time
+python3 - "$folder" "$reference" "$program" "$PWD" <<'PY'
 import os, random, re, resource, subprocess, sys
 
-folder, reference, top = sys.argv[1:]
+folder, reference, program, top = sys.argv[1:]
 path = lambda name: os.path.join(folder, name)
 sys.path.insert(0, os.path.join(top, "bench"))
-sys.dont_write_bytecode = True
 import reference_coder
 
 # The tables of the plain coders: the ranges from the encoder's own source, the rest from the text of the standard's tables.
@@ -87,7 +78,7 @@ def run(program, words, times):
     return after.ru_utime - before.ru_utime, done.stdout
 
 programs = {
-    "rambovitu": (os.path.join(top, "crates/time_bins/out/time_bins"), []),
+    "rambovitu": (program, ["bins"]),
     "C, bytes": (path("cabac"), ["bytes"]),
     "C, bits": (path("cabac"), ["bits"]),
 }

@@ -3,16 +3,14 @@
 # same quantisation parameter), all in this run; the reference and x264 also with the loop filter switched off, which `encode` can't do.
 # Prints pictures per second, ratios and the sizes of the streams.
 #
-# usage: bench/encode.sh REFERENCE [FILM]
-# REFERENCE is a program that takes the same words. Without FILM a film of 352x288 with 60 pictures is made: by ffmpeg where it is
+# usage: bench/encode.sh [FILM]
+# Without FILM a film of 352x288 with 60 pictures is made: by ffmpeg where it is
 # installed, else a plain one of moving texture.
-set -eu
-cd "$(dirname "$0")/.."
-reference=$(realpath "$1")
-folder=$(mktemp -d)
-trap 'rm -rf "$folder"' EXIT
-film=${2:-$folder/film.y4m}
-if [ $# -lt 2 ]; then
+. "$(dirname "$0")/../tools/common.sh"
+need_reference
+build encode_cli
+film=${1:-$folder/film.y4m}
+if [ $# -lt 1 ]; then
     if command -v ffmpeg >/dev/null; then
         # a rotating, zooming fractal beside a test picture: both smooth and busy parts, and motion
         ffmpeg -v error -f lavfi -i "mandelbrot=size=176x288:rate=25" -f lavfi -i "testsrc2=size=176x288:rate=25" \
@@ -36,8 +34,7 @@ with open(sys.argv[2], "wb") as f:
         f.write(b"FRAME\n" + raw[i:i + size])
 PY
 fi
-./rambovitu store --in /dev/null --out "$folder/none" 2>/dev/null || true
-python3 - "$film" "$folder" "$reference" "$PWD/crates/encode_cli/out/encode_cli" <<'PY'
+python3 - "$film" "$folder" "$reference" "$program" <<'PY'
 import os, resource, shutil, subprocess, sys, time
 film, folder, reference, program = sys.argv[1:]
 with open(film, "rb") as f:

@@ -1,4 +1,4 @@
-// The deblocking filter in plain C, on the same picture as crates/time_filter: intra macroblocks, QP 30.
+// The deblocking filter in plain C, on the same picture as `tool_time filter`: intra macroblocks, QP 30.
 #include <stdint.h>
 #include <stdio.h>
 #include <stdlib.h>

@@ -3,21 +3,18 @@
 # nanoseconds per macroblock. Both print a sum over the filtered samples, which must be the same.
 #
 # usage: bench/filter.sh
-set -eu
-cd "$(dirname "$0")/.."
-folder=$(mktemp -d)
-trap 'rm -rf "$folder"' EXIT
-(cd crates/time_filter && rt run -- 0) >"$folder/log" 2>&1 </dev/null || { cat "$folder/log" >&2; exit 1; }
+. "$(dirname "$0")/../tools/common.sh"
+build tool_time
 ${CC:-clang} -O2 -o "$folder/filter" bench/filter.c
-python3 - "$folder/filter" "$PWD/crates/time_filter/out/time_filter" <<'PY'
+python3 - "$folder/filter" "$program" <<'PY'
 import subprocess, sys, time
 
-programs = {"plain C": sys.argv[1], "proved": sys.argv[2]}
+programs = {"plain C": [sys.argv[1]], "proved": [sys.argv[2], "filter"]}
 times, macroblocks = 300, 40 * 22
 
 def run(program, *words):
     start = time.perf_counter()
-    out = subprocess.run([program, str(times), *words], check=True, capture_output=True, text=True).stdout
+    out = subprocess.run([*program, str(times), *words], check=True, capture_output=True, text=True).stdout
     return time.perf_counter() - start, out
 
 best, sums = {}, {}

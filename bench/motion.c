@@ -1,5 +1,5 @@
 // Plain prediction of 16x16 luma blocks in C, timed beside the proved one: the same random plane and places, and the same sum
-// printed as by `time_blocks_inter`.
+// printed as by `tool_time motion`.
 //
 // usage: motion copy|b|h|j TIMES
 #include <stdint.h>

@@ -3,28 +3,20 @@
 # at the half sample positions that the standard names b (across), h (down) and j (both). All sums have to agree.
 #
 # usage: bench/motion.sh
-set -eu
-cd "$(dirname "$0")/.."
-folder=$(mktemp -d)
-trap 'rm -rf "$folder"' EXIT
-# The build ends with a run whose words the program refuses.
-(cd crates/time_blocks_inter && rt run -- no number) >"$folder/log" 2>&1 </dev/null || true
-if [ ! -x crates/time_blocks_inter/out/time_blocks_inter ]; then
-    cat "$folder/log" >&2
-    exit 1
-fi
+. "$(dirname "$0")/../tools/common.sh"
+build tool_time
 cc -O3 -o "$folder/o3" bench/motion.c
 cc -O3 -march=x86-64-v2 -o "$folder/o3v2" bench/motion.c
-python3 - "$folder" "$PWD/crates/time_blocks_inter/out/time_blocks_inter" <<'PY'
+python3 - "$folder" "$program" <<'PY'
 import os, resource, subprocess, sys
 
 folder, program = sys.argv[1:]
-programs = {"rambovitu": program, "C, -O3": os.path.join(folder, "o3"), "C, -O3, SSE4": os.path.join(folder, "o3v2")}
+programs = {"rambovitu": [program, "motion"], "C, -O3": [os.path.join(folder, "o3")], "C, -O3, SSE4": [os.path.join(folder, "o3v2")]}
 blocks = 1024  # of one turn
 
 def run(program, position, times):
     before = resource.getrusage(resource.RUSAGE_CHILDREN)
-    done = subprocess.run([program, position, str(times)], capture_output=True, text=True, check=True)
+    done = subprocess.run([*program, position, str(times)], capture_output=True, text=True, check=True)
     after = resource.getrusage(resource.RUSAGE_CHILDREN)
     return after.ru_utime - before.ru_utime, done.stdout
 

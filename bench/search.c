@@ -1,5 +1,5 @@
 // A plain full search in C, timed beside the proved one: every vector of the window of each macroblock is compared, and the same sum
-// is printed as by `time_search`. Standard input has the luma samples of the picture and of its reference.
+// is printed as by `tool_time search`. Standard input has the luma samples of the picture and of its reference.
 //
 // usage: search WIDTH HEIGHT RANGE TIMES
 #include <stdint.h>

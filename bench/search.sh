@@ -6,23 +6,15 @@
 # usage: bench/search.sh [FILM]
 # With FILM, a YUV4MPEG2 film in 4:2:0 whose width and height are multiples of 16, also on eight pairs of its pictures, each picture
 # searched in the one before it.
-set -eu
-cd "$(dirname "$0")/.."
-folder=$(mktemp -d)
-trap 'rm -rf "$folder"' EXIT
-# The build ends with a run whose words the program refuses.
-(cd crates/time_search && rt run -- no numbers) >"$folder/log" 2>&1 </dev/null || true
-if [ ! -x crates/time_search/out/time_search ]; then
-    cat "$folder/log" >&2
-    exit 1
-fi
+. "$(dirname "$0")/../tools/common.sh"
+build tool_time
 cc -O3 -o "$folder/o3" bench/search.c
 cc -O3 -march=x86-64-v2 -o "$folder/o3v2" bench/search.c
-python3 - "$folder" "$PWD/crates/time_search/out/time_search" ${1:+"$1"} <<'PY'
+python3 - "$folder" "$program" ${1:+"$1"} <<'PY'
 import os, random, resource, subprocess, sys
 
 folder, program = sys.argv[1:3]
-programs = {"rambovitu": program, "C, -O3": os.path.join(folder, "o3"), "C, -O3, SSE4": os.path.join(folder, "o3v2")}
+programs = {"rambovitu": [program, "search"], "C, -O3": [os.path.join(folder, "o3")], "C, -O3, SSE4": [os.path.join(folder, "o3v2")]}
 width, height, span, turns = 640, 352, 16, 4
 vectors = (2 * span + 1) ** 2
 random.seed(1)
@@ -93,7 +85,7 @@ for name, (width, height, all_samples) in films.items():
         best, told = {}, set()
         for _ in range(5):
             for who, program in programs.items():
-                words = [program, str(width), str(height), str(span)]
+                words = [*program, str(width), str(height), str(span)]
                 alone, line = run([*words, "1"], samples)
                 if len(line) > 3:
                     compared_here = int(line[3])

@@ -1,15 +1,13 @@
 #!/bin/bash
 # Times `store` on a film against a reference encoder's `store` and against `cat`, all in this run, and prints the ratios and the peak memory.
 #
-# usage: bench/store.sh REFERENCE [FILM]
-# REFERENCE is a program that takes the same words. Without FILM a film of 1920x1088 with 80 pictures (250 MB) is made.
-set -eu
-cd "$(dirname "$0")/.."
-reference=$(realpath "$1")
-folder=$(mktemp -d)
-trap 'rm -rf "$folder"' EXIT
-film=${2:-$folder/film.y4m}
-if [ $# -lt 2 ]; then
+# usage: bench/store.sh [FILM]
+# Without FILM a film of 1920x1088 with 80 pictures (250 MB) is made.
+. "$(dirname "$0")/../tools/common.sh"
+need_reference
+build encode_cli
+film=${1:-$folder/film.y4m}
+if [ $# -lt 1 ]; then
     python3 - "$film" <<'PY'
 import random, sys
 random.seed(7)
@@ -22,8 +20,7 @@ with open(sys.argv[1], "wb") as f:
         f.write(b"FRAME\n" + base[k:] + base[:k])
 PY
 fi
-./rambovitu store --in /dev/null --out "$folder/none" 2>/dev/null || true
-python3 - "$film" "$folder" "$reference" "$PWD/crates/encode_cli/out/encode_cli" <<'PY'
+python3 - "$film" "$folder" "$reference" "$program" <<'PY'
 import os, resource, subprocess, sys, time
 film, folder, reference, program = sys.argv[1:]
 out = os.path.join(folder, "out")

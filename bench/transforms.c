@@ -1,4 +1,4 @@
-// Plain transforms in C, timed beside the proved ones: the same random blocks, and the same sum printed as by `time_blocks`.
+// Plain transforms in C, timed beside the proved ones: the same random blocks, and the same sum printed as by `tool_time blocks`.
 //
 // usage: transforms 4x4|8x8 TIMES
 #include <stdint.h>

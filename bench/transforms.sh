@@ -3,28 +3,20 @@
 # that is transformed, quantised, rescaled and transformed back. All sums have to agree.
 #
 # usage: bench/transforms.sh
-set -eu
-cd "$(dirname "$0")/.."
-folder=$(mktemp -d)
-trap 'rm -rf "$folder"' EXIT
-# The build ends with a run whose words the program refuses.
-(cd crates/time_blocks && rt run -- no number) >"$folder/log" 2>&1 </dev/null || true
-if [ ! -x crates/time_blocks/out/time_blocks ]; then
-    cat "$folder/log" >&2
-    exit 1
-fi
+. "$(dirname "$0")/../tools/common.sh"
+build tool_time
 cc -O2 -o "$folder/o2" bench/transforms.c
 cc -O3 -o "$folder/o3" bench/transforms.c
-python3 - "$folder" "$PWD/crates/time_blocks/out/time_blocks" <<'PY'
+python3 - "$folder" "$program" <<'PY'
 import os, resource, subprocess, sys
 
 folder, program = sys.argv[1:]
-programs = {"rambovitu": program, "C, -O2": os.path.join(folder, "o2"), "C, -O3": os.path.join(folder, "o3")}
+programs = {"rambovitu": [program, "blocks"], "C, -O2": [os.path.join(folder, "o2")], "C, -O3": [os.path.join(folder, "o3")]}
 blocks = 1024  # of one turn
 
 def run(program, size, times):
     before = resource.getrusage(resource.RUSAGE_CHILDREN)
-    done = subprocess.run([program, size, str(times)], capture_output=True, text=True, check=True)
+    done = subprocess.run([*program, size, str(times)], capture_output=True, text=True, check=True)
     after = resource.getrusage(resource.RUSAGE_CHILDREN)
     return after.ru_utime - before.ru_utime, done.stdout
 

@@ -5,7 +5,6 @@ import shutil
 import subprocess
 import sys
 
-sys.dont_write_bytecode = True
 from unfiltered import unfiltered
 
 folder, reference, program = sys.argv[1:]

@@ -1,8 +1,8 @@
-# Compares the built program filter_pictures with the filter in plain_filter.py, on pictures of a reference encoder and on random ones.
+# Compares `tool_compare filter` with the filter in plain_filter.py, on pictures of a reference encoder and on random ones.
 import os, random, re, subprocess, sys
 
 folder, reference, program = sys.argv[1:]
-sys.path.insert(0, os.path.join(os.path.dirname(os.path.abspath(__file__))))
+from common import Counts
 from plain_filter import deblock
 
 KINDS = ["Pcm", "Intra4", "Intra8", "Intra16", "P16", "P16x8", "P8x16", "P8x8", "PSkip", "B16", "B16x8", "B8x16", "B8x8", "BDirect", "BSkip"]
@@ -19,7 +19,7 @@ def proved(planes, records, lists, width, height):
             numbers += [r0, r1, *v0, *v1]
         numbers += [int(any(16 * b <= place < 16 * b + 16 for place in mb["levels"])) for b in range(16)]
         text.append(" ".join(map(str, numbers)))
-    out = subprocess.run([program], input="\n".join(text) + "\n", capture_output=True, text=True)
+    out = subprocess.run([program, "filter"], input="\n".join(text) + "\n", capture_output=True, text=True)
     if out.returncode:
         sys.exit(f"the program refuses a picture: status {out.returncode}")
     rows = [list(map(int, line.split())) for line in out.stdout.splitlines()]
@@ -81,7 +81,6 @@ def encode(stage, source, settings):
 
 def intra_pictures(rng):
     """Films of IDR pictures: coded without the filter and with it, they have the same records."""
-    count = 0
     for width, height, qp, transform in ((64, 48, 20, 1), (64, 48, 30, 1), (80, 32, 36, 0), (48, 64, 42, 1), (48, 48, 51, 1), (32, 32, 0, 1)):
         source = os.path.join(folder, "film")
         film(source, width, height, 3, rng)
@@ -90,11 +89,12 @@ def intra_pictures(rng):
         after, filtered = encode(6, source, settings)
         assert before == after, "the records differ"
         for records, given, wanted in zip(after, pictures_of(unfiltered, width, height), pictures_of(filtered, width, height)):
+            kind = "pictures of the reference encoder that the filter changes" if given != wanted else "pictures that it leaves"
             for name, call in (("the plain filter", plain), ("the program", proved)):
-                if call(given, records, [[0] * 4, [0] * 4], width // 16, height // 16) != wanted:
-                    sys.exit(f"{name} differs from the reference encoder at QP {qp}")
-            count += given != wanted
-    return count
+                if call(given, records, [[0] * 4, [0] * 4], width // 16, height // 16) == wanted:
+                    counts.agree(f"{name}: {kind}")
+                else:
+                    counts.differ(f"{name} from the reference encoder at QP {qp}")
 
 
 def random_record(rng):
@@ -124,11 +124,13 @@ def random_pictures(rng, count):
         planes = []
         for scale in (16, 8, 8):
             planes.append([[max(0, min(255, 120 + (x // 4 * 5 + y // 4 * 3) % spread + rng.randrange(spread))) for x in range(scale * width)] for y in range(scale * height)])
-        if proved(planes, records, lists, width, height) != plain(planes, records, lists, width, height):
-            sys.exit("a random picture differs")
+        if proved(planes, records, lists, width, height) == plain(planes, records, lists, width, height):
+            counts.agree("the program and the plain filter: random pictures")
+        else:
+            counts.differ("a random picture")
 
 
-rng = random.Random(11)
-changed = intra_pictures(rng)
+counts, rng = Counts(), random.Random(11)
+intra_pictures(rng)
 random_pictures(rng, 60)
-print(f"the same: {changed} pictures of the reference encoder that the filter changes, 60 random pictures")
+counts.finish("filtered pictures")

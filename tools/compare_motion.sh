@@ -3,20 +3,14 @@
 # which vector differences each macroblock has. Predicted vectors are the vectors less the differences; P_Skip and direct macroblocks
 # have derived motion alone. Which blocks are neighbours is worked out here (ITU-T H.264, clause 6.4.11).
 #
-# usage: tools/compare_motion.sh REFERENCE
-set -eu
-cd "$(dirname "$0")/.."
-reference=$(realpath "$1")
-folder=$(mktemp -d)
-trap 'rm -rf "$folder"' EXIT
-(cd crates/derive_motion && rt run) >"$folder/log" 2>&1 </dev/null || true
-if [ ! -x crates/derive_motion/out/derive_motion ]; then
-    cat "$folder/log" >&2
-    exit 1
-fi
+# usage: tools/compare_motion.sh
+. "$(dirname "$0")/common.sh"
+need_reference
+build tool_compare
 
-python3 - "$folder" "$reference" "$PWD/crates/derive_motion/out/derive_motion" <<'PY'
+python3 - "$folder" "$reference" "$program" <<'PY'
 import os, random, re, subprocess, sys
+from common import Counts
 
 folder, reference, program = sys.argv[1:]
 ABSENT = "0 -1 0 0 -1 0 0"
@@ -102,7 +96,7 @@ def asked(pictures):
             first_of_list_1 = places
 
 random.seed(1)
-agreed, failed = {}, 0
+counts = Counts()
 for noise, pan in ((0, 0), (0, 1), (2, 0), (6, 3), (20, -2)):
     source = os.path.join(folder, "film")
     open(source, "wb").write(film(96, 80, 8, noise, pan))
@@ -111,16 +105,11 @@ for noise, pan in ((0, 0), (0, 1), (2, 0), (6, 3), (20, -2)):
         subprocess.run([reference, "--stage", "9", "--dump", paths["dump"], "encode", "--in", source, "--out", paths["stream"],
                         "--recon", paths["recon"]] + words, check=True)
         rows = list(asked(list(pictures(open(paths["dump"]).read()))))
-        run = subprocess.run([program], input="".join(line + "\n" for _, line, _ in rows).encode(), capture_output=True, check=True)
+        run = subprocess.run([program, "motion"], input="".join(line + "\n" for _, line, _ in rows).encode(), capture_output=True, check=True)
         for (kind, line, wanted), told in zip(rows, run.stdout.decode().splitlines(), strict=True):
             if list(map(int, told.split())) == wanted:
-                agreed[kind] = agreed.get(kind, 0) + 1
+                counts.agree(kind)
             else:
-                failed += 1
-                if failed < 10:
-                    print(f"differs: {kind} {' '.join(words)} noise {noise}: {line}: {told}, not {wanted}")
-for kind, count in sorted(agreed.items()):
-    print(f"{kind}: {count} agree")
-print(f"{sum(agreed.values())} agree, {failed} differ")
-sys.exit(1 if failed or not agreed else 0)
+                counts.differ(f"{kind} {' '.join(words)} noise {noise}: {line}: {told}, not {wanted}")
+counts.finish("derivations")
 PY

@@ -2,21 +2,14 @@
 # Plans pictures by the built planner and compares each macroblock's plan and kind with those of a reference encoder, which
 # codes films that are made here in I slices and says what it plans.
 #
-# usage: tools/compare_plans.sh REFERENCE
-set -eu
-cd "$(dirname "$0")/.."
-reference=$(realpath "$1")
-folder=$(mktemp -d)
-trap 'rm -rf "$folder"' EXIT
-# The build ends with a run whose words the program refuses.
-(cd crates/plan_pictures && rt run -- no numbers) >"$folder/log" 2>&1 </dev/null || true
-if [ ! -x crates/plan_pictures/out/plan_pictures ]; then
-    cat "$folder/log" >&2
-    exit 1
-fi
+# usage: tools/compare_plans.sh
+. "$(dirname "$0")/common.sh"
+need_reference
+build tool_compare
 
-python3 - "$folder" "$reference" "$PWD/crates/plan_pictures/out/plan_pictures" <<'PY'
+python3 - "$folder" "$reference" "$program" <<'PY'
 import random, re, subprocess, sys
+from common import Counts
 
 folder, reference, program = sys.argv[1:]
 random.seed(5)
@@ -65,7 +58,7 @@ def plans_of(text):
     return [macroblock["line"] for macroblock in found]
 
 
-macroblocks = 0
+counts = Counts()
 for film in range(40):
     width, height = random.choice([(16, 16), (16, 48), (48, 16), (32, 32), (64, 48), (80, 64)])
     pictures = random.randint(1, 3)
@@ -90,16 +83,15 @@ for film in range(40):
     first_rows = sorted({int(row) for row in re.findall(r"slice \d+ rows (\d+)", dump)})
     coded_qp = int(re.search(r" qp (\d+) coarsest", dump)[1])
     numbers = [width, height, pictures, int(t8x8 == "on"), coded_qp] + first_rows
-    planned = subprocess.run(
-        [program] + [str(number) for number in numbers], input=b"".join(samples), stdout=subprocess.PIPE, check=True
-    ).stdout.decode()
-    expected = plans_of(dump)
-    if planned.splitlines() != expected:
-        for ours, theirs in zip(planned.splitlines(), expected):
-            if ours != theirs:
-                print("planned  ", ours)
-                print("reference", theirs)
-        sys.exit(f"film {film} is planned otherwise: {numbers}")
-    macroblocks += len(expected)
-print(f"{macroblocks} macroblocks are planned alike")
+    lines = "".join(" ".join(map(str, picture)) + "\n" for picture in samples)
+    told = subprocess.run([program, "plans", *map(str, numbers)], input=lines, capture_output=True, text=True, check=True)
+    planned, expected = told.stdout.splitlines(), plans_of(dump)
+    if len(planned) != len(expected):
+        counts.differ(f"film {film} has {len(planned)} plans, not {len(expected)}")
+    for ours, theirs in zip(planned, expected):
+        if ours == theirs:
+            counts.agree(theirs.split()[-1])
+        else:
+            counts.differ(f"film {film}, {numbers}: {ours}, not {theirs}")
+counts.finish("macroblocks' plans")
 PY

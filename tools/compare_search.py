@@ -6,6 +6,8 @@ import re
 import subprocess
 import sys
 
+from common import Counts
+
 folder, reference, program = sys.argv[1:]
 PARTS = [(0, 0, 16, 16), (0, 0, 16, 8), (0, 8, 16, 8), (0, 0, 8, 16), (8, 0, 8, 16), (0, 0, 8, 8), (8, 0, 8, 8), (0, 8, 8, 8), (8, 8, 8, 8)]
 part_line = re.compile(r"\s*part (\d) cost (\d+) \[(-?\d+) \((-?\d+),(-?\d+)\) \| (-?\d+) \((-?\d+),(-?\d+)\)\]")
@@ -150,9 +152,10 @@ def plain_search(source, near, left, top, wide, high, span):
 
 def searched(source, planes, width, height, span):
     """For each plane and macroblock the rows that the program prints for its nine partitions."""
-    words = [program, str(width), str(height), str(span), str(len(planes))]
-    told = subprocess.run(words, input=b"".join(source + plane for plane in planes), capture_output=True, check=True).stdout
-    rows = [list(map(int, line.split())) for line in told.decode().splitlines()]
+    words = [program, "search", str(width), str(height), str(span), str(len(planes))]
+    lines = "".join(" ".join(map(str, samples)) + "\n" for plane in planes for samples in (source, plane))
+    told = subprocess.run(words, input=lines, capture_output=True, text=True, check=True).stdout
+    rows = [list(map(int, line.split())) for line in told.splitlines()]
     blocks = width // 16 * (height // 16)
     assert len(rows) == 9 * blocks * len(planes)
     return [[rows[9 * (p * blocks + b) : 9 * (p * blocks + b + 1)] for b in range(blocks)] for p in range(len(planes))]
@@ -181,15 +184,7 @@ def agrees(told, first, second):
 
 
 random.seed(3)
-partitions, plain, compared, moved, differences = {"P": 0, "B": 0}, 0, 0, 0, 0
-
-
-def differs(*words):
-    global differences
-    differences += 1
-    if differences <= 10:
-        print("differs:", *words)
-
+counts, compared, moved = Counts(), 0, 0
 
 for noise, pan, span in ((0, 0, 3), (0, 5, 4), (2, 2, 8), (6, -7, 16), (1, 3, 32), (30, 9, 5)):
     for refs, bframes in ((1, 0), (3, 0), (2, 2)):
@@ -215,7 +210,7 @@ for noise, pan, span in ((0, 0, 3), (0, 5, 4), (2, 2, 8), (6, -7, 16), (1, 3, 32
                 found = [searched(source, [built[p.display] for p in each], width, height, span) for each in lists]
                 count = sum(row[3] for each in found for rows in each for block in rows for row in block)
                 if count != picture.compared:
-                    differs(here, f"picture {picture.display}: {count} vectors are compared, not {picture.compared}")
+                    counts.differ(here, f"picture {picture.display}: {count} vectors are compared, not {picture.compared}")
                 compared += count
                 moved += bool(picture.moved)
                 for block, parts in enumerate(picture.parts):
@@ -223,9 +218,9 @@ for noise, pan, span in ((0, 0, 3), (0, 5, 4), (2, 2, 8), (6, -7, 16), (1, 3, 32
                         first = best_of_list(found[0], block, part)
                         second = best_of_list(found[1], block, part) if found[1] else None
                         if agrees(told, first, second):
-                            partitions[picture.kind] += 1
+                            counts.agree(f"partitions of {picture.kind} pictures")
                         else:
-                            differs(here, f"picture {picture.display} macroblock {block} part {part}: {first} {second}, not {told}")
+                            counts.differ(here, f"picture {picture.display} macroblock {block} part {part}: {first} {second}, not {told}")
                 if span <= 8:
                     block, part = random.randrange(len(picture.parts)), random.randrange(9)
                     left, top, wide, high = PARTS[part]
@@ -233,13 +228,12 @@ for noise, pan, span in ((0, 0, 3), (0, 5, 4), (2, 2, 8), (6, -7, 16), (1, 3, 32
                     near = Samples(built[lists[0][0].display], width, height)
                     wanted = plain_search(Samples(source, width, height), near, left, top, wide, high, span)
                     if found[0][0][block][part] == wanted:
-                        plain += 1
+                        counts.agree("plain searches")
                     else:
-                        differs(here, f"picture {picture.display} macroblock {block} part {part}: {found[0][0][block][part]}, plain {wanted}")
+                        counts.differ(here, f"picture {picture.display} macroblock {block} part {part}: {found[0][0][block][part]}, plain {wanted}")
             if picture.kind != "B":
                 held = ([] if picture.idr else held)
                 held = [picture, *held][:refs]
-print(f"{partitions['P']} partitions of P pictures, {partitions['B']} of B pictures and {compared} compared vectors agree with the encoder's")
-print(f"{plain} searches agree with the plain one; {moved} lists had a picture moved to the front")
-print(f"{differences} differences")
-sys.exit(1 if differences or not all(partitions.values()) or not plain else 0)
+print(f"{compared} vectors were compared, as the encoder says; {moved} lists had a picture moved to the front")
+assert len(counts.agreed) == 3, "a kind of picture, or the plain search, wasn't compared"
+counts.finish("searches")

@@ -2,16 +2,14 @@
 # Compares `store` with a reference encoder, byte for byte, on films that it makes: random samples, runs of 00 00 0x that need
 # emulation prevention bytes, and heads and pictures that are refused. Where ffmpeg is installed, stored films are decoded back too.
 #
-# usage: tools/compare_store.sh REFERENCE
-set -eu
-cd "$(dirname "$0")/.."
-reference=$(realpath "$1")
-folder=$(mktemp -d)
-trap 'rm -rf "$folder"' EXIT
-./rambovitu store --in /dev/null --out "$folder/none" 2>/dev/null || true
+# usage: tools/compare_store.sh
+. "$(dirname "$0")/common.sh"
+need_reference
+build encode_cli
 
-python3 - "$folder" "$reference" "$PWD/crates/encode_cli/out/encode_cli" <<'PY'
+python3 - "$folder" "$reference" "$program" <<'PY'
 import os, random, shutil, subprocess, sys
+from common import Counts
 
 folder, reference, program = sys.argv[1:]
 random.seed(1)
@@ -40,7 +38,7 @@ for width, height in [(16, 16), (32, 16), (48, 80), (176, 144), (352, 288), (16,
             cases.append((f"{width}x{height} {pictures} {kind}", film(width, height, pictures, kind)))
 
 ffmpeg = shutil.which("ffmpeg")
-failed = decoded = 0
+counts = Counts()
 for name, data in cases:
     paths = {k: os.path.join(folder, k) for k in ("film", "ours", "theirs", "shown")}
     for path in paths.values():
@@ -52,9 +50,9 @@ for name, data in cases:
     theirs = subprocess.run([reference, "--stage", "1", "store", "--in", paths["film"], "--out", paths["theirs"]], capture_output=True)
     read = lambda p: open(p, "rb").read() if os.path.exists(p) else None
     if (ours.returncode, ours.stderr, ours.stdout, read(paths["ours"])) != (theirs.returncode, theirs.stderr, theirs.stdout, read(paths["theirs"])):
-        failed += 1
-        print(f"differs: {name}: {ours.returncode} {ours.stderr!r}, reference {theirs.returncode} {theirs.stderr!r}")
+        counts.differ(f"{name}: {ours.returncode} {ours.stderr!r}, reference {theirs.returncode} {theirs.stderr!r}")
         continue
+    counts.agree("films that the reference stores")
     stream = read(paths["ours"])
     if ffmpeg and ours.returncode == 0 and stream:
         subprocess.run([ffmpeg, "-v", "error", "-y", "-i", paths["ours"], "-f", "rawvideo", "-pix_fmt", "yuv420p", paths["shown"]], check=True)
@@ -65,9 +63,8 @@ for name, data in cases:
         n = width * height * 3 // 2
         wanted = b"".join(data[i + 6:i + 6 + n] for i in range(line, len(data), n + 6))
         if read(paths["shown"]) != wanted:
-            failed += 1
-            print(f"decoded otherwise: {name}")
-        decoded += 1
-print(f"compared {len(cases)} films with the reference, {decoded} decoded by ffmpeg, {failed} differ")
-sys.exit(1 if failed else 0)
+            counts.differ(f"{name}, as ffmpeg decodes it")
+        else:
+            counts.agree("films that ffmpeg decodes")
+counts.finish("comparisons")
 PY

@@ -3,22 +3,15 @@
 # streams of a film that is made here, with I, P and B slices, and says which bins each has; the states of the contexts are
 # kept here, by the standard's tables.
 #
-# usage: tools/replay_bins.sh REFERENCE
-set -eu
-cd "$(dirname "$0")/.."
-reference=$(realpath "$1")
+# usage: tools/replay_bins.sh
+. "$(dirname "$0")/common.sh"
+need_reference
+build tool_compare
 tables=$PWD/tools/context_states.txt
-folder=$(mktemp -d)
-trap 'rm -rf "$folder"' EXIT
-# The build ends with a run whose words the program refuses.
-(cd crates/code_bins && rt run -- no number) >"$folder/log" 2>&1 </dev/null || true
-if [ ! -x crates/code_bins/out/code_bins ]; then
-    cat "$folder/log" >&2
-    exit 1
-fi
 
-python3 - "$folder" "$reference" "$PWD/crates/code_bins/out/code_bins" "$tables" <<'PY'
+python3 - "$folder" "$reference" "$program" "$tables" <<'PY'
 import os, random, subprocess, sys
+from common import Bits, Counts, units
 
 folder, reference, program, tables = sys.argv[1:]
 
@@ -52,40 +45,6 @@ def follow(ctx, bit):  # clause 9.3.3.2.1.1
     else:
         ctx[0] = next_lps[state]
         ctx[1] = 1 - mps if state == 0 else mps
-
-class Bits:
-    def __init__(self, data):
-        self.text, self.at = "".join(f"{byte:08b}" for byte in data), 0
-
-    def u(self, n):
-        self.at += n
-        assert self.at <= len(self.text)
-        return int(self.text[self.at - n:self.at] or "0", 2)
-
-    def ue(self):
-        zeros = 0
-        while self.u(1) == 0:
-            zeros += 1
-        return 2 ** zeros - 1 + self.u(zeros)
-
-    def se(self):
-        k = self.ue()
-        return (k + 1) // 2 if k % 2 else -(k // 2)
-
-def without_prevention(payload):  # clause 7.4.1: each byte 03 behind two zeros
-    out, zeros = bytearray(), 0
-    for byte in payload:
-        if zeros >= 2 and byte == 3:
-            zeros = 0
-            continue
-        out.append(byte)
-        zeros = zeros + 1 if byte == 0 else 0
-    return bytes(out)
-
-def units(stream):
-    for part in stream.split(b"\0\0\1")[1:]:
-        part = part.rstrip(b"\0")
-        yield part[0], without_prevention(part[1:])
 
 def has_filter_field(payload):  # deblocking_filter_control_present_flag (7.3.2.2)
     b = Bits(payload)
@@ -181,7 +140,7 @@ def film(width, height, pictures, noise):
     return out
 
 random.seed(1)
-agreed, failed = {}, 0
+counts = Counts()
 for noise in (0, 6, 40):
     source = os.path.join(folder, "film")
     with open(source, "wb") as f:
@@ -196,15 +155,11 @@ for noise in (0, 6, 40):
             assert [s[0] for s in written] == [s[0] for s in told], "other slices"
             for (first, kind, qp, data), (_, bins) in zip(written, told):
                 lines = "".join(line + "\n" for line in lines_of(kind, qp, bins))
-                run = subprocess.run([program], input=lines.encode(), capture_output=True)
+                run = subprocess.run([program, "bins"], input=lines.encode(), capture_output=True)
                 codes = [bytes.fromhex(line.decode()) for line in run.stdout.split()]
                 if run.returncode == 0 and agrees(codes, data):
-                    agreed[stage, kind] = agreed.get((stage, kind), 0) + 1
+                    counts.agree(f"stage {stage}, {kind}")
                 else:
-                    failed += 1
-                    print(f"differs: stage {stage} {' '.join(words)} noise {noise}, {kind} slice at macroblock {first}: {run.returncode} {run.stderr!r}")
-for (stage, kind), count in sorted(agreed.items()):
-    print(f"stage {stage}: {count} {kind} slices agree")
-print(f"{sum(agreed.values())} slices agree, {failed} differ")
-sys.exit(1 if failed or not agreed else 0)
+                    counts.differ(f"stage {stage} {' '.join(words)} noise {noise}, {kind} slice at macroblock {first}: {run.returncode} {run.stderr!r}")
+counts.finish("slices")
 PY

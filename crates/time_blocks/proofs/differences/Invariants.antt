@@ -1,9 +1,0 @@
-use Rattle.std.proofs.Common.{◌≡◌, ◌<◌, ℕ, length}
-use Rattle.spec_residual.specs.Blocks.{Within, item}
-use Rattle.time_blocks.proofs.differences.Given as goal
-
-abbrev pub invariant-loop-p : goal.invariant-loop-p
-invariant-loop-p g l = record {
-  long : length l.out ≡ g.row.N;
-  done : (k : ℕ) → k < l.p → Within 255 (item l.out k);
-}
