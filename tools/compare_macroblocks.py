@@ -1,15 +1,11 @@
 """Compares the macroblocks that a reference encoder wrote with those of the macroblock layer: the records that it dumps are written
-by crates/code_slices, and each slice's data must be its bytes.
+by `tool_compare slices`, and each slice's data must be its bytes.
 
 usage: compare_macroblocks.py FOLDER REFERENCE PROGRAM
 """
-import os
-import random
-import re
-import subprocess
-import sys
+import os, random, re, subprocess, sys
 
-from common import Bits, units
+from common import Bits, Counts, units
 
 folder, reference, program = sys.argv[1:4]
 
@@ -112,7 +108,7 @@ def runs(number, qp):
 
 def main():
     random.seed(2)
-    agreed, failed, kinds = 0, 0, {}
+    counts, kinds = Counts(), {}
     films = [(48, 64, 0, 40), (64, 64, 4, 60), (80, 64, 30, 10), (48, 80, 127, 0), (32, 64, 1, 0)]
     paths = {name: os.path.join(folder, name) for name in ("dump", "out", "recon", "still", "moving")}
     for number, (width, height, noise, edge) in enumerate(films):
@@ -134,17 +130,15 @@ def main():
                     for mb in mbs:
                         name = KINDS[mb[0]] + (" of 8x8 transforms" if mb[1] and mb[0] != 1 else "")
                         kinds[name] = kinds.get(name, 0) + 1
-                run = subprocess.run([program], input=lines.encode(), capture_output=True)
+                run = subprocess.run([program, "slices"], input=lines.encode(), capture_output=True)
                 codes = [bytes.fromhex(line.decode()) for line in run.stdout.split() if re.fullmatch(b"[0-9A-F]+", line)]
                 codes += [b""] * (len(written) - len(codes))
                 for (first, slice_qp, kind, lists, data), code in zip(written, codes):
                     if code == data:
-                        agreed += 1
+                        counts.agree(f"{'IPB'[kind]} slices of QP {slice_qp // 13 * 13} to {slice_qp // 13 * 13 + 12}")
                     else:
-                        failed += 1
-                        print(f"differs: {width}x{height}, {words}, {'IPB'[kind]} slice of QP {slice_qp} at macroblock {first}: {run.returncode} {run.stderr[-200:]!r}")
+                        counts.differ(f"{width}x{height}, {words}, {'IPB'[kind]} slice of QP {slice_qp} at macroblock {first}: {run.returncode} {run.stderr[-200:]!r}")
     print(", ".join(f"{kinds[kind]} {kind}" for kind in sorted(kinds)))
-    print(f"{agreed} slices agree, {failed} differ")
-    sys.exit(1 if failed or not agreed else 0)
+    counts.finish("slices")
 
 main()

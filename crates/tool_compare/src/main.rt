@@ -9,16 +9,18 @@ ghost use Rattle.std.specs.Prelude.{◌≤◌, length};
 mod bins;
 mod code;
 mod filter;
+mod inter;
 mod motion;
 mod pictures;
 mod plans;
 mod search;
+mod slices;
 
 use std::process::ExitCode;
 use tool_input::{Fault, borrowed, ended, number_words, own_words, read_lines};
 
 const WORDS: &str =
-    "bins, motion, filter, plans WIDTH HEIGHT PICTURES T8X8 QP FIRST_ROW.., or search WIDTH HEIGHT RANGE PAIRS";
+    "bins, slices, motion, filter, plans WIDTH HEIGHT PICTURES T8X8 QP FIRST_ROW.., or search WIDTH HEIGHT RANGE PAIRS";
 
 const PARTS: &str = "parts, each of which begins with a line `= NAME SETTINGS..`";
 
@@ -31,6 +33,7 @@ fn ask(rt: &HostRuntime, words: &[&str], lines: &[String]) -> Result<(), Fault> 
     let settings = number_words(alloc, settings, WORDS)?;
     match (*name, settings.as_slice()) {
         ("bins", []) => bins::code_lines(rt, lines),
+        ("slices", []) => slices::code_slices(rt, lines),
         ("motion", []) => motion::derive_lines(rt, lines),
         ("filter", []) => filter::filter_picture(rt, lines),
         ("plans", settings) => plans::plan_pictures(rt, settings, lines),

@@ -1,5 +1,0 @@
-use Rattle.bin_writer.specs.Coding.{seen, IsReady}
-use Rattle.code_slices.proofs.slice.write_slice.Given as goal
-
-abbrev pub invariant-loop-k : goal.invariant-loop-k
-invariant-loop-k l = IsReady (seen l.coder l.contexts)
