@@ -34,15 +34,21 @@ fn a_file_is_encoded_to_two_files(rt: HostRuntime) -> Result<(), Fail> {
     assert_eq!(rt; end, Ok(()));
     assert_eq!(rt; studio.write(Out::Stream, &[0]), Err(Failed));
     assert_eq!(rt; studio.write(Out::Recon, &[0]), Err(Failed));
-    let mut bytes = [0; 512];
+    let mut bytes = [0; 36];
+    let mut behind = [0; 1];
     assert_eq!(rt; studio.open_in(stream), Ok(()));
     assert_eq!(rt; read_full(&mut studio, &mut bytes), Ok(36));
-    assert_eq!(rt; &bytes[..36], STREAM.as_slice());
+    assert_eq!(rt; bytes, STREAM);
+    assert_eq!(rt; read_full(&mut studio, &mut behind), Ok(0));
+    let shown = *b"YUV4MPEG2 W16 H16 F25:1 Ip C420\nFRAME\n";
+    let mut lines = [0; 38];
+    let mut samples = [0; 384];
     assert_eq!(rt; studio.open_in(recon), Ok(()));
-    assert_eq!(rt; read_full(&mut studio, &mut bytes), Ok(422));
-    let shown = b"YUV4MPEG2 W16 H16 F25:1 Ip C420\nFRAME\n";
-    assert_eq!(rt; &bytes[..38], shown.as_slice());
-    assert_eq!(rt; &bytes[38..422], grey.as_slice());
+    assert_eq!(rt; read_full(&mut studio, &mut lines), Ok(38));
+    assert_eq!(rt; lines, shown);
+    assert_eq!(rt; read_full(&mut studio, &mut samples), Ok(384));
+    assert_eq!(rt; samples, grey);
+    assert_eq!(rt; read_full(&mut studio, &mut behind), Ok(0));
     for name in [film, stream, recon] {
         fs::remove_file(&rt, name)?;
     }

@@ -1,1 +1,2 @@
 pub mod ByTest
+mod StrengthRows
