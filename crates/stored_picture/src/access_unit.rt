@@ -65,6 +65,7 @@ fn append_sequence(units: &mut BitBuf, payload: &mut BitBuf, head: &FilmHead)
     ensures whole { length units.new.text % 8 ≡ 0 }
     ensures length { length units.new.text ≤ length units.old.text + 8 * 800 }
     ensures payload { payload.new.room ≡ payload.old.room }
+    ensures payload_made { payload.new.made ≡ payload.old.made }
 {
     payload.clear();
     let _ = write_sps(
@@ -89,6 +90,7 @@ fn append_picture_set(units: &mut BitBuf, payload: &mut BitBuf)
     ensures whole { length units.new.text % 8 ≡ 0 }
     ensures length { length units.new.text ≤ length units.old.text + 8 * 800 }
     ensures payload { payload.new.room ≡ payload.old.room }
+    ensures payload_made { payload.new.made ≡ payload.old.made }
 {
     payload.clear();
     let _ = write_pps(payload, false, false);
@@ -111,6 +113,7 @@ fn append_slice(
     requires room { length units.old.text + 8 * (5 + payload_most head.now + payload_most head.now / 2) ≤ units.old.room }
     ensures text { units.new ≡ record units.old { text = units.old.text ++ bits_of_bytes (unit_bytes false 3 5 (bytes_of_bits (stored_slice_bits (mbs_across head.now) (mbs_down head.now) number (planes_of picture.now)))) } }
     ensures payload { payload.new.room ≡ payload.old.room }
+    ensures payload_made { payload.new.made ≡ payload.old.made }
     ensures picture { IsPicture head.now (planes_of picture.now) }
 {
     let across = (head.width + 15) / 16;
@@ -136,6 +139,7 @@ pub fn write_access_unit(
     requires units { 8 * units_most head.now ≤ units.old.room }
     ensures text { units.new ≡ record units.old { text = bits_of_bytes (stored_picture head.now number (planes_of picture.now)) } }
     ensures payload { payload.new.room ≡ payload.old.room }
+    ensures payload_made { payload.new.made ≡ payload.old.made }
 
     // Its planes have the film's sizes, and their samples are bytes.
     ensures picture { IsPicture head.now (planes_of picture.now) }
