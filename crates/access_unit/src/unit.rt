@@ -98,6 +98,7 @@ pub fn code_access_unit<R>(
     ensures made { IsMadeFor coder.new head.now.width head.now.height settings.now.slices }
     ensures others { OnlyPictureDiffers coder.old coder.new }
     ensures payload { payload.new.room ≡ payload.old.room }
+    ensures payload_made { payload.new.made ≡ payload.old.made }
 {
     let start = out.len();
     if write_parameter_sets(head, settings.t8x8, payload, out).is_err() {
