@@ -1,7 +1,7 @@
 // Encodings over a studio in memory.
 use crate::outcome::{Outcome, fault_line, status};
 use crate::run::run;
-use crate::tests::grey_film;
+use crate::tests::{grey_film, two_grey_pictures};
 use enc_edge::{MemStudio, OpenGate, Out, Place};
 use encode_film::SettingFault;
 use spec_film::InputFault;
@@ -20,6 +20,17 @@ const UNIT: [u8; 36] = [
 
 const HEAD: &[u8] = b"YUV4MPEG2 W16 H16 F25:1 Ip C420\n";
 
+// Two grey pictures of 32 by 32 samples, each in two slices, without 8x8 transforms: a decoder shows 128 in every sample.
+const TWO_UNITS: [u8; 103] = [
+    0x00, 0x00, 0x00, 0x01, 0x67, 0x64, 0x00, 0x33, 0xAC, 0x1B, 0x1A, 0x89, 0x64, 0x00, 0x00, 0x00,
+    0x01, 0x68, 0xEE, 0x38, 0x30, 0x00, 0x00, 0x01, 0x65, 0x88, 0x80, 0x00, 0x40, 0x00, 0x00, 0xC7,
+    0xF1, 0x3C, 0x0F, 0x70, 0x00, 0x00, 0x01, 0x65, 0x62, 0x20, 0x00, 0x10, 0x00, 0x00, 0x31, 0xF1,
+    0x3C, 0x0F, 0x70, 0x00, 0x00, 0x00, 0x01, 0x67, 0x64, 0x00, 0x33, 0xAC, 0x1B, 0x1A, 0x89, 0x64,
+    0x00, 0x00, 0x00, 0x01, 0x68, 0xEE, 0x38, 0x30, 0x00, 0x00, 0x01, 0x65, 0x88, 0x80, 0x00, 0x20,
+    0x00, 0x00, 0x31, 0xF1, 0x3C, 0x0F, 0x70, 0x00, 0x00, 0x01, 0x65, 0x62, 0x20, 0x00, 0x08, 0x00,
+    0x00, 0x0C, 0x7F, 0xF1, 0x3C, 0x0F, 0x70,
+];
+
 fn is_grey_recon(bytes: &[u8]) -> bool {
     bytes.len() == HEAD.len() + 390 && bytes.starts_with(HEAD) && bytes.ends_with(&[0x80; 384])
 }
@@ -32,6 +43,23 @@ fn a_grey_picture_encoded(rt: HostRuntime) -> Result<(), Fail> {
     assert_eq!(rt; studio.written(Out::Stream), UNIT.as_slice());
     assert!(rt; is_grey_recon(studio.written(Out::Recon)));
     assert_eq!(rt; studio.written(Out::Report).len(), 0);
+    Ok(())
+}
+
+#[test]
+fn two_grey_pictures_in_two_slices(rt: HostRuntime) -> Result<(), Fail> {
+    let alloc = rt.alloc();
+    let film = two_grey_pictures(alloc, b"YUV4MPEG2 W32 H32\n")?;
+    let mut studio = MemStudio::new(alloc, film, 10_000, 4096, Vec::new(alloc))?;
+    let words = [
+        "encode", "--in", "film", "--out", "stream", "--recon", "recon", "--slices", "2", "--qp",
+        "40", "--t8x8", "off",
+    ];
+    assert_eq!(rt; run(&rt, &words, &mut studio, &OpenGate), Outcome::Done);
+    assert_eq!(rt; studio.written(Out::Stream), TWO_UNITS.as_slice());
+    let shown = two_grey_pictures(alloc, b"YUV4MPEG2 W32 H32 F25:1 Ip C420\n")?;
+    assert_eq!(rt; shown.len(), 3116);
+    assert_eq!(rt; studio.written(Out::Recon), shown.as_slice());
     Ok(())
 }
 

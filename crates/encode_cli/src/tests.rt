@@ -25,6 +25,16 @@ pub fn grey_film(alloc: Global) -> Result<Vec<u8>, AllocError> {
     Ok(film)
 }
 
+// A film of two grey pictures of 32 by 32 samples, behind this head.
+pub fn two_grey_pictures(alloc: Global, head: &[u8]) -> Result<Vec<u8>, AllocError> {
+    let mut film = head.to_vec(alloc)?;
+    for _ in 0..2 {
+        film.extend_from_slice(b"FRAME\n")?;
+        film.extend_from_slice(&[0x80; 1536])?;
+    }
+    Ok(film)
+}
+
 fn is_stored_grey(bytes: &[u8]) -> bool {
     bytes.len() == 417 && bytes.starts_with(&BEGIN) && bytes.ends_with(&REST)
 }
@@ -37,6 +47,17 @@ fn a_grey_picture(rt: HostRuntime) -> Result<(), Fail> {
     assert!(rt; is_stored_grey(studio.written(Out::Stream)));
     assert_eq!(rt; studio.written(Out::Recon).len(), 0);
     assert_eq!(rt; studio.written(Out::Report).len(), 0);
+    Ok(())
+}
+
+#[test]
+fn two_grey_pictures_stored(rt: HostRuntime) -> Result<(), Fail> {
+    let alloc = rt.alloc();
+    let film = two_grey_pictures(alloc, b"YUV4MPEG2 W32 H32\n")?;
+    let mut studio = MemStudio::new(alloc, film, 10_000, 4096, Vec::new(alloc))?;
+    assert_eq!(rt; run(&rt, &WORDS, &mut studio, &OpenGate), Outcome::Done);
+    assert_eq!(rt; studio.written(Out::Stream).len(), 3150);
+    assert_eq!(rt; studio.written(Out::Recon).len(), 0);
     Ok(())
 }
 
