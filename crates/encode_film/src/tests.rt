@@ -1,9 +1,10 @@
-// Films of grey pictures of 16 by 16 samples, encoded over a studio in memory.
+// Films of grey pictures, encoded over a studio in memory.
 use crate::{EncodeEnd, encode};
-use enc_edge::{MemStudio, OpenGate, Out};
+use enc_edge::{Gate, MemStudio, OpenGate, Out};
 use spec_film::InputFault;
 use spec_words::Settings;
 use std::alloc::{AllocError, Global};
+use std::sync::atomic::{AtomicU64, Ordering};
 use std::test::Fail;
 
 const SETTINGS: Settings = Settings {
@@ -67,5 +68,51 @@ fn a_film_cut_in_its_second_picture(rt: HostRuntime) -> Result<(), Fail> {
     assert_eq!(rt; studio.written(Out::Stream), UNIT.as_slice());
     let shown = grey_film(alloc, b"YUV4MPEG2 W16 H16 F25:1 Ip C420\n")?;
     assert_eq!(rt; studio.written(Out::Recon), shown.as_slice());
+    Ok(())
+}
+
+// A gate that counts how often each of three rows entered, and how often any other.
+#[derive(Drop)]
+struct CountingGate {
+    rows: [AtomicU64; 3],
+    others: AtomicU64,
+}
+
+impl Gate for CountingGate {
+    fn enter(&self, row: u32) {
+        let count = self.rows.get(row as usize).unwrap_or(&self.others);
+        count.fetch_add(1, Ordering::SeqCst);
+    }
+}
+
+#[test]
+fn each_row_enters_the_gate_once(rt: HostRuntime) -> Result<(), Fail> {
+    let alloc = rt.alloc();
+    let mut film = b"YUV4MPEG2 W16 H48\nFRAME\n".to_vec(alloc)?;
+    film.extend_from_slice(&[0x80; 1152])?;
+    let mut studio = MemStudio::new(alloc, film, 10_000, 4096, Vec::new(alloc))?;
+    let settings = Settings {
+        qp: 26,
+        slices: 2,
+        t8x8: true,
+    };
+    let gate = CountingGate {
+        rows: [AtomicU64::new(0), AtomicU64::new(0), AtomicU64::new(0)],
+        others: AtomicU64::new(0),
+    };
+    let end = encode(
+        &rt,
+        "film",
+        "stream",
+        "recon",
+        &settings,
+        &mut studio,
+        &gate,
+    );
+    assert_eq!(rt; end, Ok(()));
+    for count in &gate.rows {
+        assert_eq!(rt; count.load(Ordering::SeqCst), 1);
+    }
+    assert_eq!(rt; gate.others.load(Ordering::SeqCst), 0);
     Ok(())
 }
