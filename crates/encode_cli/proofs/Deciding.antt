@@ -31,7 +31,7 @@ use Rattle.encode_cli.specs.Answering.{Answers, answer_of}
 
 open_rose : (place : Place) (input : List ℕ) (old new : Seen) → OpenFailed input old new place → Rose (spot_at place old).opening (spot_at place new).opening
 open_rose Places.Input input old new failed = failed.rose
-open_rose (Places.Output Stream) input old new failed = failed.1.rose
+open_rose (Places.Output Stream) input old new (mid, read, failed) = subst (λ (s : Seen). Rose s.stream.opening new.stream.opening) read.now failed.rose
 open_rose (Places.Output Recon) input old new failed = absurd failed
 open_rose (Places.Output Report) input old new failed = absurd failed
 

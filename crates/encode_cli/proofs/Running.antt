@@ -1,12 +1,12 @@
 -- What the calls of a run make together.
-use Rattle.std.proofs.Common.{ℕ, ◌+◌, ◌≤◌, ◌≡◌, List, [], length, take, drop, Option, Some, None, refl, ap, sym, ◌∙◌, subst, arith, append-nil}
+use Rattle.std.proofs.Common.{ℕ, ◌+◌, ◌≤◌, ◌≡◌, List, [], length, take, drop, Option, Some, None, refl, ap, sym, ◌∙◌, subst, arith}
 use Rattle.std.proofs.lemmas.Grind.{common_steps}
 use Rattle.std.specs.Prelude.{IfSome}
 use Rattle.std.specs.Option.{option_map}
 use Rattle.enc_edge.specs.declared.studio.Out.TheVariants.{Stream}
 use Rattle.enc_edge.specs.declared.studio.Place.TheVariants.{Input, Output}
 use Rattle.enc_edge.specs.Seen.{Seen}
-use Rattle.enc_edge.specs.Calls.{took, wrote, opened, shut, OpeningFailed, LaterFailed}
+use Rattle.enc_edge.specs.Calls.{took, wrote, opened, shut, LaterFailed}
 use Rattle.enc_edge.specs.Reads.{Took, TookSome, ReadFailed}
 use Rattle.enc_edge.proofs.Spots.{drop_more, took_more}
 use Rattle.spec_film.specs.declared.FilmHead.{FilmHead}
@@ -15,13 +15,10 @@ use Rattle.spec_film.specs.declared.InputFault.TheVariants.{Form}
 use Rattle.spec_film.specs.Films.{AllowedHead, Film, Planes, FilmEnd, Ended, Faulty, most_pictures, pictures_of, read_head, film_of, film_from}
 use Rattle.spec_stream.specs.Stored.{stored_stream}
 use Rattle.spec_decoding.proofs.Stored.{stored_stream_decodes}
-use Rattle.encode_film.specs.Films.{FirstPictures, FilmBegins, IsFilm}
+use Rattle.encode_film.specs.Films.{HeadIs, FilmTaken, IsFilm, PicturesTaken}
+use Rattle.encode_film.proofs.Remaining.{film_is, film_taken, taken_all}
 use Rattle.encode_cli.specs.Pictures.{PicturesEnd, PictureUnread, PictureUnwritten}
-use Rattle.encode_cli.specs.Runs.{reading, storing, Stored, OpenFailed, ReadFault, in_head, in_pictures, WriteFault, NoFilm, no_head, cut_short}
-
--- the head that the first n bytes are
-abbrev pub HeadIs : FilmHead → ℕ → List ℕ → Type 0
-HeadIs head n left = read_head left ≡ Some (head, drop n left)
+use Rattle.encode_cli.specs.Runs.{reading, storing, Stored, HeadRead, ReadFault, in_head, in_pictures, WriteFault, NoFilm, no_head, cut_short}
 
 -- the stream stands open, the head was read from the first n bytes
 pub record Begun (input output : List ℕ) (head : FilmHead) (n : ℕ) (old mid : Seen) : Type 0 where
@@ -34,10 +31,6 @@ begun input output head n old first second third is_first is_second is_third = r
   change = is_third ∙ ap (opened (Output Stream) output) (is_second.change ∙ ap (took Input n) is_first);
   told = subst (λ (s : Seen). IfSome s.input.bytes (HeadIs head n)) is_first is_second.content;
 }
-
-film_is : (head : FilmHead) (n : ℕ) (left : List ℕ) → HeadIs head n left → film_of left ≡ film_from (Some (head, drop n left))
-unfolding film_of
-film_is head n left is = ap film_from is
 
 -- bytes behind the head, told of all bytes
 behind : (input output : List ℕ) (head : FilmHead) (n : ℕ) (old mid : Seen) (P Q : List ℕ → Type 0) → Begun input output head n old mid
@@ -55,10 +48,11 @@ further input output text n m old = ap (λ (s : Seen). wrote (Output Stream) tex
     took_both : (n m : ℕ) → took Input m (took Input n (opened Input input old)) ≡ took Input (n + m) (opened Input input old)
     took_both n m = took_more n m (opened Input input old)
 
-film_begins : (head : FilmHead) (n : ℕ) (pictures : List Planes) (left : List ℕ) → HeadIs head n left → FirstPictures head pictures (drop n left) → FilmBegins left head pictures
-film_begins head n pictures left is first =
-    let f = film_is head n left is in
-    record { head_is = ap (λ (x : Film). x.head) f; others = first.others; pictures_are = first.all ∙ sym (ap (λ (x : Film). x.pictures) f) }
+-- the pictures behind the head
+taken : (input output : List ℕ) (head : FilmHead) (n m : ℕ) (pictures : List Planes) (old mid : Seen) → Begun input output head n old mid → IfSome mid.input.bytes (PicturesTaken head m pictures)
+    → IfSome old.input.bytes (λ left. FilmTaken left (n + m) head pictures)
+taken input output head n m pictures old mid b told =
+    behind input output head n old mid (PicturesTaken head m pictures) (λ left. FilmTaken left (n + m) head pictures) b (λ left h t. film_taken head n m pictures left h t) told
 
 film_whole : (head : FilmHead) (n : ℕ) (pictures : List Planes) (end : FilmEnd) (left : List ℕ) → HeadIs head n left → pictures_of most_pictures head (drop n left) ≡ (pictures, end) → IsFilm left head pictures end
 film_whole head n pictures end left is all =
@@ -96,9 +90,14 @@ unread input output head n old mid new b u =
     in_pictures (n + u.count) head u.pictures u.between
     (record {
       now = u.stored.change ∙ ap (λ (s : Seen). wrote (Output Stream) (stored_stream head u.pictures) (took Input u.count s)) b.change ∙ further input output (stored_stream head u.pictures) n u.count old;
-      told = behind input output head n old mid (FirstPictures head u.pictures) (λ left. FilmBegins left head u.pictures) b (λ left h first. film_begins head n u.pictures left h first) u.stored.told;
+      whole = n + u.stored.whole;
+      within = also n u.stored.whole u.count u.stored.within;
+      told = taken input output head n u.stored.whole u.pictures old mid b u.stored.told;
     })
     u.failed
+  where
+    also : (n a b : ℕ) → a ≤ b → n + a ≤ n + b
+    also n a b h = omega arith
 
 pub unwritten : (input output : List ℕ) (head : FilmHead) (n : ℕ) (old mid new : Seen) → Begun input output head n old mid → PictureUnwritten head mid new → WriteFault input output old new
 unwritten input output head n old mid new b u = record {
@@ -108,11 +107,8 @@ unwritten input output head n old mid new b u = record {
   pictures = u.pictures;
   failed = subst (λ (s : Seen). LaterFailed (Output Stream) s new)
       (ap (λ (s : Seen). wrote (Output Stream) (take u.size (stored_stream head u.pictures)) (took Input u.count s)) b.change ∙ further input output (take u.size (stored_stream head u.pictures)) n u.count old) u.failed;
-  told = behind input output head n old mid (FirstPictures head u.pictures) (λ left. FilmBegins left head u.pictures) b (λ left h first. film_begins head n u.pictures left h first) u.told;
+  told = taken input output head n u.count u.pictures old mid b u.told;
 }
-
-first_all : (head : FilmHead) (pictures : List Planes) (end : FilmEnd) (left : List ℕ) → pictures_of most_pictures head left ≡ (pictures, end) → FirstPictures head pictures left
-first_all head pictures end left all = record { others = []; all = append-nil pictures ∙ sym (ap (λ (p : List Planes × FilmEnd). p.0) all) }
 
 -- the closing failed
 pub unclosed : (input output : List ℕ) (head : FilmHead) (n : ℕ) (old mid last new : Seen) → Begun input output head n old mid → PicturesEnd head Ended mid last → LaterFailed (Output Stream) last new → WriteFault input output old new
@@ -126,8 +122,7 @@ unclosed input output head n old mid last new b e failed =
       failed = subst (λ (s : Seen). LaterFailed (Output Stream) s new)
           (e.change ∙ ap (λ (s : Seen). wrote (Output Stream) text (took Input e.count s)) b.change ∙ further input output text n e.count old
           ∙ ap (λ t. storing input output (n + e.count) t old) (sym (take_all text))) failed;
-      told = behind input output head n old mid (λ left. pictures_of most_pictures head left ≡ (e.pictures, Ended)) (λ left. FilmBegins left head e.pictures) b
-          (λ left h all. film_begins head n e.pictures left h (first_all head e.pictures Ended (drop n left) all)) e.told;
+      told = taken input output head n e.count e.pictures old mid b (taken_all head e.count e.pictures mid.input.bytes e.told (e.taken refl));
     }
   where
     take_all : (xs : List ℕ) → take (length xs) xs ≡ xs
@@ -150,20 +145,20 @@ no_head_there input output old first new is t =
     go None e = tt
     go (Some left) e = (ap (λ (x : Film). x.head) (none_is left e), ap (λ (x : Film). x.end) (none_is left e))
 
--- the stream couldn't be opened
-pub stream_unopened : (input : List ℕ) (n : ℕ) (P : List ℕ → Type 0) (old first second new : Seen) → first ≡ opened Input input old → Took n P first second → OpeningFailed (Output Stream) second new
-    → OpenFailed input old new (Output Stream)
-stream_unopened input n P old first second new is t failed = (n, subst (λ (s : Seen). OpeningFailed (Output Stream) s new) (t.change ∙ ap (took Input n) is) failed)
+second_of : (head : FilmHead) (n : ℕ) (o : Option (List ℕ)) → IfSome o (λ left. (n ≤ length left) × HeadIs head n left) → IfSome o (HeadIs head n)
+second_of head n None both = tt
+second_of head n (Some left) both = both.1
 
--- memory was wanting behind the head
-pub head_then_nothing : (input : List ℕ) (n : ℕ) (P : List ℕ → Type 0) (old first second : Seen) → first ≡ opened Input input old → Took n P first second → second ≡ reading input n old
-head_then_nothing input n P old first second is t = t.change ∙ ap (took Input n) is
+-- memory was wanting behind the head, or the stream couldn't be opened
+pub head_read : (input : List ℕ) (head : FilmHead) (n : ℕ) (old first second : Seen) → first ≡ opened Input input old → Took n (λ left. (n ≤ length left) × HeadIs head n left) first second → HeadRead input old second
+head_read input head n old first second is t = record {
+  count = n;
+  head = head;
+  now = t.change ∙ ap (took Input n) is;
+  told = subst (λ (s : Seen). IfSome s.input.bytes (HeadIs head n)) is (second_of head n first.input.bytes t.content);
+}
 
 pub head_begun : (input output : List ℕ) (head : FilmHead) (n : ℕ) (old first second third : Seen) → first ≡ opened Input input old → Took n (λ left. (n ≤ length left) × HeadIs head n left) first second
     → third ≡ opened (Output Stream) output second → Begun input output head n old third
 head_begun input output head n old first second third is_first is_second is_third =
-    begun input output head n old first second third is_first (record { change = is_second.change; content = second_of first.input.bytes is_second.content }) is_third
-  where
-    second_of : (o : Option (List ℕ)) → IfSome o (λ left. (n ≤ length left) × HeadIs head n left) → IfSome o (HeadIs head n)
-    second_of None both = tt
-    second_of (Some left) both = both.1
+    begun input output head n old first second third is_first (record { change = is_second.change; content = second_of head n first.input.bytes is_second.content }) is_third

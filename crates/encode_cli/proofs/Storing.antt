@@ -25,13 +25,8 @@ use Rattle.spec_stream.proofs.StoredLaws.{stored_pictures-push}
 use Rattle.picture_planes.specs.declared.picture.Picture.{Picture}
 use Rattle.picture_planes.specs.Pictures.{SameShapes}
 use Rattle.y4m_film.specs.Sizes.{FitsHead}
-use Rattle.encode_film.specs.Films.{FirstPictures}
+use Rattle.encode_film.proofs.Remaining.{Remains, taken_of}
 use Rattle.encode_cli.specs.Pictures.{PicturesEnd, PictureUnread, PictureUnwritten, PicturesLeft, EndLeft}
-
--- the pictures so far, and those that the bytes behind them have, are all pictures, and both end alike
-pub record Remains (head : FilmHead) (number n : ℕ) (pictures : List Planes) (left : List ℕ) : Type 0 where
-  pub all : pictures ++ (pictures_of (most_pictures - number) head (drop n left)).0 ≡ (pictures_of most_pictures head left).0
-  pub end : (pictures_of (most_pictures - number) head (drop n left)).1 ≡ (pictures_of most_pictures head left).1
 
 -- so many pictures were stored
 pub record Going (head : FilmHead) (number : ℕ) (old new : Seen) : Type 0 where
@@ -67,10 +62,6 @@ took_wrote n m text s = ap (wrote (Output Stream) text) (took_more n m s)
 -- what the next step of the film says of the bytes that were left at the start
 along : (old mid : Seen) (count : ℕ) (text : List ℕ) (P : List ℕ → Type 0) → mid ≡ wrote (Output Stream) text (took Input count old) → IfSome mid.input.bytes P → IfSome (option_map (drop count) old.input.bytes) P
 along old mid count text P change told = subst (λ (s : Seen). IfSome s.input.bytes P) change told
-
-first_of : (head : FilmHead) (number n : ℕ) (pictures : List Planes) (o : Option (List ℕ)) → IfSome o (Remains head number n pictures) → IfSome o (FirstPictures head pictures)
-first_of head number n pictures None r = tt
-first_of head number n pictures (Some left) r = record { others = (pictures_of (most_pictures - number) head (drop n left)).0; all = r.all }
 
 remains_more : (head : FilmHead) (number n m : ℕ) (pictures : List Planes) (planes : Planes) (left : List ℕ) → number < most_pictures → Remains head number n pictures left
     → frame_step (most_pictures - number) head (drop n left) ≡ Next planes (drop m (drop n left)) → Remains head (number + 1) (n + m) (pictures ++ planes ∷ []) left
@@ -178,10 +169,15 @@ going_unread head number old mid new g failed =
       between = took Input m mid;
       stored = record {
         change = ap (took Input m) g.change ∙ took_wrote g.count m (stored_stream head g.pictures) old;
-        told = first_of head number g.count g.pictures old.input.bytes g.told;
+        whole = g.count;
+        within = at_least g.count m;
+        told = taken_of head number g.count g.pictures old.input.bytes g.size g.told;
       };
       failed = failed.1;
     }
+  where
+    at_least : (n m : ℕ) → n ≤ n + m
+    at_least n m = omega arith
 
 front_of : (e : ℕ) (text unit all : List ℕ) → e ≤ length unit → all ≡ text ++ unit → text ++ take e unit ≡ take (length text + e) all
 front_of e text unit all h is =
@@ -204,7 +200,7 @@ going_unwritten head number m e planes unit old mid read new below g was next is
       size = length text + e;
       pictures = g.pictures ++ planes ∷ [];
       failed = subst (λ (s : Seen). LaterFailed (Output Stream) s new) (reached ∙ ap (λ t. wrote (Output Stream) t (took Input (g.count + m) old)) front) failed;
-      told = first_of head (number + 1) (g.count + m) (g.pictures ++ planes ∷ []) old.input.bytes after.told;
+      told = taken_of head (number + 1) (g.count + m) (g.pictures ++ planes ∷ []) old.input.bytes after.size after.told;
     }
   where
     zero_before : (n : ℕ) → 0 + n ≡ n

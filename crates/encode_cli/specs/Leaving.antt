@@ -1,11 +1,11 @@
 -- What each answer to the command `store` leaves behind.
-use Rattle.std.specs.Prelude.{ℕ, ◌≡◌}
+use Rattle.std.specs.Prelude.{◌≡◌}
 use Rattle.enc_edge.specs.declared.studio.Out.TheVariants.{Stream}
 use Rattle.enc_edge.specs.Seen.{Seen}
 use Rattle.spec_words.specs.Words.{Word}
 use Rattle.encode_cli.specs.declared.outcome.Outcome.{Outcome}
 use Rattle.encode_cli.specs.declared.outcome.Outcome.TheVariants.{Done, Words, Open, Read, Write, Input, Setting, Long, OutOfMemory}
-use Rattle.encode_cli.specs.Runs.{Stored, OpenFailed, ReadFault, WriteFault, NoFilm, reading}
+use Rattle.encode_cli.specs.Runs.{Stored, OpenFailed, ReadFault, WriteFault, NoFilm, HeadRead}
 
 -- by the names of input and stream, and what the outside shows before and after
 abbrev pub Leaves : Word → Word → Seen → Seen → Outcome → Type 0
@@ -17,4 +17,4 @@ Leaves input output old new (Write out) = (out ≡ Stream) × WriteFault input o
 Leaves input output old new (Input fault) = NoFilm input output fault old new
 Leaves input output old new (Setting fault) = ⊥
 Leaves input output old new (Long picture) = ⊥
-Leaves input output old new OutOfMemory = (n : ℕ) × (new ≡ reading input n old)
+Leaves input output old new OutOfMemory = HeadRead input old new

@@ -1,5 +1,5 @@
 -- What the loop that stores the pictures does to the outside, from behind the film's head on.
-use Rattle.std.specs.Prelude.{ℕ, ◌≡◌, ◌++◌, List, [], take, drop, IfSome, Result, Ok, Err}
+use Rattle.std.specs.Prelude.{ℕ, ◌≡◌, ◌≤◌, ◌++◌, List, [], take, drop, IfSome, Result, Ok, Err}
 use Rattle.enc_edge.specs.declared.studio.Out.TheVariants.{Stream}
 use Rattle.enc_edge.specs.declared.studio.Place.TheVariants.{Input, Output}
 use Rattle.enc_edge.specs.Seen.{Seen}
@@ -11,14 +11,16 @@ use Rattle.spec_film.specs.Films.{Planes, FilmEnd, Ended, Faulty, Broken, most_p
 use Rattle.std.specs.List.{All}
 use Rattle.spec_stream.specs.Pictures.{IsPicture}
 use Rattle.spec_stream.specs.Stored.{stored_stream}
-use Rattle.encode_film.specs.Films.{FirstPictures}
+use Rattle.encode_film.specs.Films.{PicturesTaken}
 use Rattle.encode_cli.specs.declared.store.StoreEnd.{StoreEnd}
 use Rattle.encode_cli.specs.declared.store.StoreEnd.TheVariants.{Read, Write, NoPicture}
 
--- n bytes were taken and these pictures stored
+-- n bytes were taken and these pictures stored, which are the first `whole` of the bytes
 pub record PicturesStored (head : FilmHead) (n : ℕ) (pictures : List Planes) (old new : Seen) : Type 0 where
   pub change : new ≡ wrote (Output Stream) (stored_stream head pictures) (took Input n old)
-  pub told : IfSome old.input.bytes (FirstPictures head pictures)
+  pub whole : ℕ
+  pub within : whole ≤ n
+  pub told : IfSome old.input.bytes (PicturesTaken head whole pictures)
 
 -- all pictures of the bytes were stored, and the bytes end so
 pub record PicturesEnd (head : FilmHead) (end : FilmEnd) (old new : Seen) : Type 0 where
@@ -37,13 +39,13 @@ pub record PictureUnread (head : FilmHead) (old new : Seen) : Type 0 where
   pub stored : PicturesStored head count pictures old between
   pub failed : LaterFailed Input between new
 
--- a write failed when a front of what stores the pictures was written
+-- a write failed when a front of what stores the pictures was written, and no picture behind them was read
 pub record PictureUnwritten (head : FilmHead) (old new : Seen) : Type 0 where
   pub count : ℕ
   pub size : ℕ
   pub pictures : List Planes
   pub failed : LaterFailed (Output Stream) (wrote (Output Stream) (take size (stored_stream head pictures)) (took Input count old)) new
-  pub told : IfSome old.input.bytes (FirstPictures head pictures)
+  pub told : IfSome old.input.bytes (PicturesTaken head count pictures)
 
 -- what is left after each end of the loop
 abbrev pub PicturesLeft : FilmHead → Seen → Seen → Result (Unit {0}) StoreEnd → Type 0

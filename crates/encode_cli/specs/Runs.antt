@@ -1,11 +1,11 @@
 -- What a run of `store` does to the outside.
-use Rattle.std.specs.Prelude.{ℕ, ◌≡◌, ◌++◌, List, [], take, drop, Some, None, IfSome}
+use Rattle.std.specs.Prelude.{ℕ, ◌≡◌, ◌≤◌, ◌++◌, List, [], take, drop, Some, None, IfSome}
 use Rattle.enc_edge.specs.declared.studio.Out.TheVariants.{Stream, Recon, Report}
 use Rattle.enc_edge.specs.declared.studio.Place.{Place}
 use Rattle.enc_edge.specs.declared.studio.Place.TheVariants.{Input, Output}
 use Rattle.enc_edge.specs.Seen.{Seen}
 use Rattle.enc_edge.specs.Calls.{OpeningFailed, LaterFailed, opened, shut, wrote, took}
-use Rattle.encode_film.specs.Films.{FilmBegins, IsFilm}
+use Rattle.encode_film.specs.Films.{HeadIs, FilmTaken, IsFilm}
 use Rattle.spec_film.specs.declared.FilmHead.{FilmHead}
 use Rattle.spec_film.specs.declared.InputFault.{InputFault}
 use Rattle.spec_film.specs.Films.{Planes, FilmEnd, Ended, Faulty, film_of}
@@ -31,17 +31,26 @@ pub record Stored (input output : List ℕ) (old new : Seen) : Type 0 where
   pub shows : decode (stored_stream head pictures) ≡ Some pictures
   pub whole : IfSome old.input.bytes (λ left. (drop count left ≡ []) × IsFilm left head pictures Ended)
 
+-- the input stands open under its name, its head was read and no byte behind it
+pub record HeadRead (input : List ℕ) (old new : Seen) : Type 0 where
+  pub count : ℕ
+  pub head : FilmHead
+  pub now : new ≡ reading input count old
+  pub told : IfSome old.input.bytes (HeadIs head count)
+
 -- a place couldn't be opened: nothing was written, and where it is the input, nothing was read. `store` opens no other output than the stream
 abbrev pub OpenFailed : List ℕ → Seen → Seen → Place → Type 0
 OpenFailed input old new Input = OpeningFailed Input old new
-OpenFailed input old new (Output Stream) = (n : ℕ) × OpeningFailed (Output Stream) (reading input n old) new
+OpenFailed input old new (Output Stream) = (mid : Seen) × HeadRead input old mid × OpeningFailed (Output Stream) mid new
 OpenFailed input old new (Output Recon) = ⊥
 OpenFailed input old new (Output Report) = ⊥
 
--- the outside once these pictures of the film were stored, and n bytes of the input were taken
+-- the outside once these pictures of the film were stored, and n bytes of the input were taken: the first `whole` of them are the head and the pictures
 pub record StoredSoFar (input output : List ℕ) (n : ℕ) (head : FilmHead) (pictures : List Planes) (old new : Seen) : Type 0 where
   pub now : new ≡ storing input output n (stored_stream head pictures) old
-  pub told : IfSome old.input.bytes (λ left. FilmBegins left head pictures)
+  pub whole : ℕ
+  pub within : whole ≤ n
+  pub told : IfSome old.input.bytes (λ left. FilmTaken left whole head pictures)
 
 -- a read failed: before the stream was opened, or after some pictures were stored
 pub data ReadFault (input output : List ℕ) (old new : Seen) : Type 0 where
@@ -49,14 +58,15 @@ pub data ReadFault (input output : List ℕ) (old new : Seen) : Type 0 where
   in_pictures : (n : ℕ) (head : FilmHead) (pictures : List Planes) (mid : Seen)
       → StoredSoFar input output n head pictures old mid → LaterFailed Input mid new → ReadFault input output old new
 
--- a write to the stream or its closing failed: what was written is a front of the stream that stores the film's first pictures
+-- a write to the stream or its closing failed: what was written is a front of the stream that stores the film's first pictures, and no picture
+-- behind these was read
 pub record WriteFault (input output : List ℕ) (old new : Seen) : Type 0 where
   pub count : ℕ
   pub size : ℕ
   pub head : FilmHead
   pub pictures : List Planes
   pub failed : LaterFailed (Output Stream) (storing input output count (take size (stored_stream head pictures)) old) new
-  pub told : IfSome old.input.bytes (λ left. FilmBegins left head pictures)
+  pub told : IfSome old.input.bytes (λ left. FilmTaken left count head pictures)
 
 -- the input isn't a film: its head is none, and nothing was written; or the film ends so, and its pictures before that were stored
 pub data NoFilm (input output : List ℕ) (fault : InputFault) (old new : Seen) : Type 0 where

@@ -16,7 +16,7 @@ pub enum Outcome {
     Done,
     /// The words are no command.
     Words(WordFault),
-    /// A file couldn't be opened. Nothing was written then, and where it is the input, nothing was read.
+    /// A file couldn't be opened. Nothing was written then; where it is the input, nothing was read, and else the film's head and no more.
     Open(Place),
     /// Reading the input failed.
     Read,
@@ -31,7 +31,7 @@ pub enum Outcome {
         /// The number of the picture, counted from 0.
         picture: u32,
     },
-    /// Memory was wanting. No output was opened then.
+    /// Memory was wanting. No output was opened then, and of the input the film's head was read and no more.
     OutOfMemory,
 }
 

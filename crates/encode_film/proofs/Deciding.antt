@@ -1,5 +1,5 @@
 -- The film and the settings alone decide the end where nothing outside fails.
-use Rattle.std.proofs.Common.{ℕ, ◌≡◌, Bool, true, false, inl, inr, List, [], ◌∷◌, ◌++◌, Option, Some, None, refl, ap, ap₂, sym, ◌∙◌, subst, if◌then◌else◌}
+use Rattle.std.proofs.Common.{ℕ, ◌-◌, ◌≡◌, Bool, true, false, inl, inr, List, [], ◌∷◌, ◌++◌, length, drop, Option, Some, None, refl, ap, ap₂, sym, ◌∙◌, subst, if◌then◌else◌}
 use Rattle.std.specs.Prelude.{IfSome, Result, Ok, Err}
 use Rattle.enc_edge.specs.declared.studio.Out.{Out}
 use Rattle.enc_edge.specs.declared.studio.Out.TheVariants.{Stream, Recon, Report}
@@ -10,18 +10,19 @@ use Rattle.enc_edge.specs.Calls.{Rose}
 use Rattle.spec_film.specs.declared.FilmHead.{FilmHead}
 use Rattle.spec_film.specs.declared.InputFault.{InputFault}
 use Rattle.spec_film.specs.declared.InputFault.TheVariants.{Form}
-use Rattle.spec_film.specs.Films.{Film, Planes, FilmEnd, Ended, Faulty, film_of}
+use Rattle.spec_film.specs.Films.{Film, Planes, FilmEnd, Ended, Faulty, most_pictures, pictures_of, film_of}
 use Rattle.spec_words.specs.declared.Settings.{Settings}
 use Rattle.encode_film.specs.declared.ends.EncodeEnd.{EncodeEnd}
 use Rattle.encode_film.specs.declared.ends.EncodeEnd.TheVariants.{Open, Read, Write, Input, Setting, Long, OutOfMemory}
 use Rattle.encode_film.specs.declared.ends.SettingFault.TheVariants.{Slices}
 use Rattle.encode_film.specs.Answering.{Answers, answer_of, answer_by, end_of}
-use Rattle.encode_film.specs.Films.{FilmBegins, IsFilm}
+use Rattle.encode_film.specs.Films.{HeadIs, FilmTaken, IsFilm}
 use Rattle.encode_film.specs.Leaving.{Leaves}
 use Rattle.encode_film.specs.Limits.{too_many_slices, first_long}
 use Rattle.encode_film.specs.Outputs.{Names}
 use Rattle.encode_film.specs.Runs.{Allowed, OpenFailed, ReadFault, in_head, in_pictures, WriteFault, head_cut, picture_cut, closing_stream, closing_recon, NoFilm, no_head, cut_short, TooLong, NoFault}
 use Rattle.encode_film.proofs.Growing.{long_there}
+use Rattle.encode_film.proofs.Remaining.{film_is}
 
 -- CAUSES
 
@@ -82,9 +83,10 @@ no_film_end names settings fault old new left is (cut_short n head pictures chan
 long_end : (names : Names) (settings : Settings) (number : ℕ) (old new : Seen) (left : List ℕ) → old.input.bytes ≡ Some left → TooLong names settings number old new → answer_of (film_of left) settings ≡ Err (Long number)
 long_end names settings number old new left is l =
     let r = l.read in
-    let t = of_told old.input.bytes left (λ bytes. FilmBegins bytes r.head (r.pictures ++ r.source ∷ [])) is r.told in
+    let t = of_told old.input.bytes left (λ bytes. FilmTaken bytes r.count r.head (r.pictures ++ r.source ∷ [])) is r.told in
+    let others = (pictures_of (most_pictures - length (r.pictures ++ r.source ∷ [])) r.head (drop r.count left)).0 in
     few_end (film_of left) settings r.head (Some number) (film_of left).end t.head_is r.allowed.few
-    (ap (first_long r.head settings 0) (sym t.pictures_are) ∙ long_there r.head settings number r.pictures r.source t.others l.size r.allowed.short l.long) refl
+    (ap (first_long r.head settings 0) (sym t.pictures_are) ∙ long_there r.head settings number r.pictures r.source others l.size r.allowed.short l.long) refl
 
 pub answers : (names : Names) (settings : Settings) (old new : Seen) (r : Result (Unit {0}) EncodeEnd) → Leaves names settings old new r → (left : List ℕ) → old.input.bytes ≡ Some left → NoFault old new
     → Answers (film_of left) settings r
@@ -96,6 +98,6 @@ answers names settings old new (Err Read) l left is none = absurd (none.later pl
 answers names settings old new (Err (Write out)) l left is none = absurd (none.later (places.Output out) (write_rose names settings out old new l))
 answers names settings old new (Err (Input fault)) l left is none = inl (sym (no_film_end names settings fault old new left is l))
 answers names settings old new (Err (Setting Slices)) l left is none =
-    inl (sym (slices_end (film_of left) settings l.head (of_told old.input.bytes left (λ bytes. (film_of bytes).head ≡ Some l.head) is l.told) l.many))
+    inl (sym (slices_end (film_of left) settings l.head (ap (λ (film : Film). film.head) (film_is l.head l.count left (of_told old.input.bytes left (HeadIs l.head l.count) is l.told))) l.many))
 answers names settings old new (Err (Long picture)) l left is none = inl (sym (long_end names settings picture old new left is l))
 answers names settings old new (Err OutOfMemory) l left is none = inr refl

@@ -1,5 +1,5 @@
 -- The loop that encodes pictures.
-use Rattle.std.proofs.Common.{ℕ, ◌+◌, ◌-◌, ◌≡◌, ◌<◌, List, [], ◌∷◌, ◌++◌, length, drop, None, refl, ap, ap₂, sym, ◌∙◌, subst, arith, length-append}
+use Rattle.std.proofs.Common.{ℕ, ◌+◌, ◌-◌, ◌≡◌, ◌<◌, ◌≤◌, List, [], ◌∷◌, ◌++◌, length, drop, None, refl, ap, ap₂, sym, ◌∙◌, subst, arith, length-append}
 use Rattle.std.specs.Prelude.{IfSome, All, Result, Ok, Err, true, false}
 use Rattle.std.specs.Result.{IsErrAnd}
 use Rattle.std.proofs.lemmas.List.Elements.{All-nil, All-cons, All-append}
@@ -26,7 +26,7 @@ use Rattle.encode_film.specs.Limits.{is_long, first_long}
 use Rattle.encode_film.specs.Outputs.{written, shown_film, PictureCut}
 use Rattle.encode_film.specs.Pictures.{PictureEncoded, PictureLeft, PicturesEnd, PictureRead, PictureUnread, cut_picture, PicturesLeft, EndLeft}
 use Rattle.encode_film.proofs.Growing.{stream_push, film_push, stream_none, film_none, first_none, short_push}
-use Rattle.encode_film.proofs.Remaining.{Remains, remains_none, first_of, remains_more, remains_over, none_left, remains_broken}
+use Rattle.encode_film.proofs.Remaining.{Remains, remains_none, taken_of, remains_more, remains_over, none_left, remains_broken}
 
 -- so many pictures were encoded
 pub record Going (head : FilmHead) (settings : Settings) (number : ℕ) (old new : Seen) : Type 0 where
@@ -131,6 +131,9 @@ going_broken head settings number old mid new g t = record {
   taken = λ e. absurd (cc);
 }
 
+at_least : (n m : ℕ) → n ≤ n + m
+at_least n m = omega arith
+
 pub going_unread : (head : FilmHead) (settings : Settings) (number : ℕ) (old mid new : Seen) → Going head settings number old mid → ReadFailed mid new → PictureUnread head settings old new
 going_unread head settings number old mid new g failed = record {
   count = g.count + failed.0;
@@ -139,7 +142,9 @@ going_unread head settings number old mid new g failed = record {
   encoded = record {
     change = read_on head settings number failed.0 old mid (took places.Input failed.0 mid) g refl;
     short = g.short;
-    told = first_of head number g.count g.pictures old.input.bytes g.told;
+    whole = g.count;
+    within = at_least g.count failed.0;
+    told = taken_of head number g.count g.pictures old.input.bytes g.size g.told;
   };
   failed = failed.1;
 }
@@ -153,7 +158,8 @@ next_read head settings number m planes old mid read below g was next = record {
   source = planes;
   change = read_on head settings number m old mid read g was;
   short = g.short;
-  told = first_of head (number + 1) (g.count + m) (g.pictures ++ planes ∷ []) old.input.bytes (told_more head settings number m planes old mid g below next);
+  told = taken_of head (number + 1) (g.count + m) (g.pictures ++ planes ∷ []) old.input.bytes (length-append g.pictures (planes ∷ []) ∙ ap (λ n. n + 1) g.size)
+      (told_more head settings number m planes old mid g below next);
 }
 
 -- the next picture wasn't encoded

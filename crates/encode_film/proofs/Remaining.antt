@@ -7,9 +7,9 @@ use Rattle.enc_edge.specs.Reads.{Took, TookSome}
 use Rattle.enc_edge.proofs.Spots.{drop_more}
 use Rattle.spec_film.specs.declared.FilmHead.{FilmHead}
 use Rattle.spec_film.specs.declared.InputFault.TheVariants.{Form}
-use Rattle.spec_film.specs.Films.{Planes, FilmEnd, Ended, Faulty, Over, Next, Broken, most_pictures, frame_step, pictures_of}
+use Rattle.spec_film.specs.Films.{Film, Planes, FilmEnd, Ended, Faulty, Over, Next, Broken, most_pictures, frame_step, pictures_of, film_of, film_from}
 use Rattle.spec_film.proofs.FilmLaws.{pictures_over, pictures_broken, pictures_next, next_none}
-use Rattle.encode_film.specs.Films.{FirstPictures}
+use Rattle.encode_film.specs.Films.{HeadIs, FilmTaken, PicturesTaken}
 
 -- the pictures so far, and those that the bytes behind them have, are all pictures, and both end alike
 pub record Remains (head : FilmHead) (number n : ℕ) (pictures : List Planes) (left : List ℕ) : Type 0 where
@@ -20,9 +20,13 @@ pub remains_none : (head : FilmHead) (o : Option (List ℕ)) → IfSome o (Remai
 remains_none head None = tt
 remains_none head (Some left) = record { all = refl; end = refl }
 
-pub first_of : (head : FilmHead) (number n : ℕ) (pictures : List Planes) (o : Option (List ℕ)) → IfSome o (Remains head number n pictures) → IfSome o (FirstPictures head pictures)
-first_of head number n pictures None r = tt
-first_of head number n pictures (Some left) r = record { others = (pictures_of (most_pictures - number) head (drop n left)).0; all = r.all }
+-- so the first n bytes are the pictures so far
+pub taken_of : (head : FilmHead) (number n : ℕ) (pictures : List Planes) (o : Option (List ℕ)) → length pictures ≡ number → IfSome o (Remains head number n pictures) → IfSome o (PicturesTaken head n pictures)
+taken_of head number n pictures None size r = tt
+taken_of head number n pictures (Some left) size r = record {
+  all = ap (λ k. pictures ++ (pictures_of (most_pictures - k) head (drop n left)).0) size ∙ r.all;
+  end = ap (λ k. (pictures_of (most_pictures - k) head (drop n left)).1) size ∙ r.end;
+}
 
 one_more : (head : FilmHead) (number n m : ℕ) (pictures : List Planes) (planes : Planes) (left : List ℕ) → number < most_pictures → Remains head number n pictures left
     → frame_step (most_pictures - number) head (drop n left) ≡ Next planes (drop m (drop n left)) → Remains head (number + 1) (n + m) (pictures ++ planes ∷ []) left
@@ -57,6 +61,14 @@ ends_so head number n pictures end left r e =
     pair : (p : List Planes × FilmEnd) → p.0 ≡ pictures → p.1 ≡ end → p ≡ (pictures, end)
     pair p a b = ap (λ x. (x, p.1)) a ∙ ap (λ y. (pictures, y)) b
 
+-- all pictures of the bytes, where nothing is left behind them
+taken_whole : (head : FilmHead) (n : ℕ) (pictures : List Planes) (left : List ℕ) → pictures_of most_pictures head left ≡ (pictures, Ended) → pictures_of (most_pictures - length pictures) head (drop n left) ≡ ([], Ended)
+    → PicturesTaken head n pictures left
+taken_whole head n pictures left are over = record {
+  all = ap (λ (p : List Planes × FilmEnd). pictures ++ p.0) over ∙ append-nil pictures ∙ sym (ap (λ (p : List Planes × FilmEnd). p.0) are);
+  end = ap (λ (p : List Planes × FilmEnd). p.1) over ∙ sym (ap (λ (p : List Planes × FilmEnd). p.1) are);
+}
+
 step_over : (more : ℕ) (head : FilmHead) → frame_step more head [] ≡ Over
 unfolding frame_step
 step_over zero head = refl
@@ -68,6 +80,13 @@ remains_over head number n pictures None r none = tt
 remains_over head number n pictures (Some left) r none =
     ends_so head number n pictures Ended left r
     (pictures_over (most_pictures - number) head (drop n left) (ap (frame_step (most_pictures - number) head) none ∙ step_over (most_pictures - number) head))
+
+pub taken_all : (head : FilmHead) (n : ℕ) (pictures : List Planes) (o : Option (List ℕ)) → IfSome o (λ left. pictures_of most_pictures head left ≡ (pictures, Ended)) → IfSome o (λ left. drop n left ≡ [])
+    → IfSome o (PicturesTaken head n pictures)
+taken_all head n pictures None are none = tt
+taken_all head n pictures (Some left) are none =
+    taken_whole head n pictures left are
+    (pictures_over (most_pictures - length pictures) head (drop n left) (ap (frame_step (most_pictures - length pictures) head) none ∙ step_over (most_pictures - length pictures) head))
 
 pub none_left : (n : ℕ) (o : Option (List ℕ)) → IfSome (option_map (drop n) o) (λ left. left ≡ []) → IfSome o (λ left. drop n left ≡ [])
 none_left n None none = tt
@@ -91,3 +110,20 @@ never_next head n planes old new t = (n, record { change = t.change; content = g
     go : (o : Option (List ℕ)) → IfSome o (λ left. (n ≤ length left) × (frame_step 0 head left ≡ Next planes (drop n left))) → IfSome o (λ left. frame_step 0 head left ≡ Broken Form)
     go None t = tt
     go (Some left) t = absurd (next_none head left planes (drop n left) t.1)
+
+-- WITH THE HEAD
+
+pub film_is : (head : FilmHead) (n : ℕ) (left : List ℕ) → HeadIs head n left → film_of left ≡ film_from (Some (head, drop n left))
+unfolding film_of
+film_is head n left is = ap film_from is
+
+-- the pictures behind a head
+pub film_taken : (head : FilmHead) (n m : ℕ) (pictures : List Planes) (left : List ℕ) → HeadIs head n left → PicturesTaken head m pictures (drop n left) → FilmTaken left (n + m) head pictures
+film_taken head n m pictures left is taken =
+    let f = film_is head n left is in
+    let behind : drop (n + m) left ≡ drop m (drop n left) = sym (drop_more n m left) in
+    record {
+      head_is = ap (λ (x : Film). x.head) f;
+      pictures_are = ap (λ (rest : List ℕ). pictures ++ (pictures_of (most_pictures - length pictures) head rest).0) behind ∙ taken.all ∙ sym (ap (λ (x : Film). x.pictures) f);
+      end_is = ap (λ (rest : List ℕ). (pictures_of (most_pictures - length pictures) head rest).1) behind ∙ taken.end ∙ sym (ap (λ (x : Film). x.end) f);
+    }

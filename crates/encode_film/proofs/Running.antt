@@ -1,5 +1,5 @@
 -- What the calls of a run make together.
-use Rattle.std.proofs.Common.{ℕ, ◌+◌, ◌≤◌, ◌≡◌, true, false, List, [], ◌∷◌, ◌++◌, length, drop, Option, Some, None, refl, ap, sym, ◌∙◌, subst, append-nil}
+use Rattle.std.proofs.Common.{ℕ, ◌+◌, ◌≤◌, ◌≡◌, true, false, List, [], ◌∷◌, ◌++◌, length, drop, Option, Some, None, refl, ap, sym, ◌∙◌, subst, arith}
 use Rattle.std.specs.Prelude.{IfSome, Result, Ok, Err}
 use Rattle.std.specs.Option.{option_map}
 use Rattle.enc_edge.specs.declared.studio.Out.{Out}
@@ -20,17 +20,14 @@ use Rattle.spec_encoding.specs.Encoding.{encoded_stream}
 use Rattle.encode_film.specs.declared.ends.EncodeEnd.{EncodeEnd}
 use Rattle.encode_film.specs.declared.ends.EncodeEnd.TheVariants.{Open, Read, Write, Input, Setting, Long, OutOfMemory}
 use Rattle.encode_film.specs.Closing.{ClosedLeft}
-use Rattle.encode_film.specs.Films.{FilmBegins, IsFilm, FirstPictures}
+use Rattle.encode_film.specs.Films.{HeadIs, FilmTaken, IsFilm, PicturesTaken}
 use Rattle.encode_film.specs.Leaving.{Leaves}
 use Rattle.encode_film.specs.Limits.{too_many_slices}
 use Rattle.encode_film.specs.Outputs.{Names, shown_film, written, reading, all_open, encoding}
 use Rattle.encode_film.specs.Pictures.{PicturesEnd, PictureRead, PictureUnread, PictureUnwritten, cut_head, cut_picture, PictureTooLong, PicturesLeft}
 use Rattle.encode_film.specs.Runs.{Encoded, OpenFailed, ReadFault, in_head, in_pictures, HeadRead, NextRead, AllEncoded, WriteFault, head_cut, picture_cut, closing_stream, closing_recon, NoFilm, no_head, cut_short, SlicesRefused, TooLong}
+use Rattle.encode_film.proofs.Remaining.{film_is, film_taken}
 use Rattle.encode_film.proofs.Showing.{shows, reads}
-
--- the head that the first n bytes are
-abbrev pub HeadIs : FilmHead → ℕ → List ℕ → Type 0
-HeadIs head n left = read_head left ≡ Some (head, drop n left)
 
 -- the head was read from the first n bytes of the input, which stands open, and the slices are few enough
 pub record AtHead (names : Names) (settings : Settings) (head : FilmHead) (n : ℕ) (old mid : Seen) : Type 0 where
@@ -49,10 +46,6 @@ head_read names settings head n old first second allowed is t = record {
   change = t.change ∙ ap (took places.Input n) is;
   told = subst (λ (s : Seen). IfSome s.input.bytes (HeadIs head n)) is (second_of (λ left. n ≤ length left) (HeadIs head n) first.input.bytes t.content);
 }
-
-film_is : (head : FilmHead) (n : ℕ) (left : List ℕ) → HeadIs head n left → film_of left ≡ film_from (Some (head, drop n left))
-unfolding film_of
-film_is head n left is = ap film_from is
 
 -- BEFORE AN OUTPUT IS OPEN
 
@@ -73,10 +66,6 @@ no_head_there names settings old first new is t =
     go None e = tt
     go (Some left) e = (ap (λ (x : Film). x.head) (none_is left e), ap (λ (x : Film). x.end) (none_is left e))
 
-head_told : (head : FilmHead) (n : ℕ) (o : Option (List ℕ)) → IfSome o (HeadIs head n) → IfSome o (λ left. (film_of left).head ≡ Some head)
-head_told head n None h = tt
-head_told head n (Some left) h = ap (λ (x : Film). x.head) (film_is head n left h)
-
 -- a picture would have too many slices
 pub slices_refused : (names : Names) (settings : Settings) (head : FilmHead) (n : ℕ) (old mid : Seen) → AtHead names settings head n old mid → too_many_slices head settings ≡ true → SlicesRefused names settings old mid
 slices_refused names settings head n old mid r many = record {
@@ -84,7 +73,7 @@ slices_refused names settings head n old mid r many = record {
   head = head;
   many = many;
   now = r.change;
-  told = head_told head n old.input.bytes r.told;
+  told = r.told;
 }
 
 -- a picture would not have too many
@@ -94,7 +83,7 @@ head_passed names settings head n old mid r few = record {
   head = head;
   few = few;
   now = r.change;
-  told = head_told head n old.input.bytes r.told;
+  told = r.told;
 }
 
 pub recon_unopened : (names : Names) (settings : Settings) (head : FilmHead) (n : ℕ) (old mid next new : Seen) → AtHead names settings head n old mid → too_many_slices head settings ≡ false
@@ -140,11 +129,6 @@ from_start names settings head n m pictures old mid last b is =
     took_both : (n m : ℕ) → took places.Input m (took places.Input n (opened places.Input names.input old)) ≡ took places.Input (n + m) (opened places.Input names.input old)
     took_both n m = took_more n m (opened places.Input names.input old)
 
-film_begins : (head : FilmHead) (n : ℕ) (pictures : List Planes) (left : List ℕ) → HeadIs head n left → FirstPictures head pictures (drop n left) → FilmBegins left head pictures
-film_begins head n pictures left is first =
-    let f = film_is head n left is in
-    record { head_is = ap (λ (x : Film). x.head) f; others = first.others; pictures_are = first.all ∙ sym (ap (λ (x : Film). x.pictures) f) }
-
 film_whole : (head : FilmHead) (n : ℕ) (pictures : List Planes) (end : FilmEnd) (left : List ℕ) → HeadIs head n left → pictures_of most_pictures head (drop n left) ≡ (pictures, end) → IsFilm left head pictures end
 film_whole head n pictures end left is all =
     let f = film_is head n left is in
@@ -154,13 +138,10 @@ film_whole head n pictures end left is all =
       end_is = ap (λ (x : Film). x.end) f ∙ ap (λ (p : List Planes × FilmEnd). p.1) all;
     }
 
-first_all : (head : FilmHead) (pictures : List Planes) (end : FilmEnd) (left : List ℕ) → pictures_of most_pictures head left ≡ (pictures, end) → FirstPictures head pictures left
-first_all head pictures end left all = record { others = []; all = append-nil pictures ∙ sym (ap (λ (p : List Planes × FilmEnd). p.0) all) }
-
-begins : (names : Names) (settings : Settings) (head : FilmHead) (n : ℕ) (pictures : List Planes) (old mid : Seen) → Begun names settings head n old mid → IfSome mid.input.bytes (FirstPictures head pictures)
-    → IfSome old.input.bytes (λ left. FilmBegins left head pictures)
-begins names settings head n pictures old mid b told =
-    behind names settings head n old mid (FirstPictures head pictures) (λ left. FilmBegins left head pictures) b (λ left h first. film_begins head n pictures left h first) told
+taken : (names : Names) (settings : Settings) (head : FilmHead) (n m : ℕ) (pictures : List Planes) (old mid : Seen) → Begun names settings head n old mid → IfSome mid.input.bytes (PicturesTaken head m pictures)
+    → IfSome old.input.bytes (λ left. FilmTaken left (n + m) head pictures)
+taken names settings head n m pictures old mid b told =
+    behind names settings head n old mid (PicturesTaken head m pictures) (λ left. FilmTaken left (n + m) head pictures) b (λ left h t. film_taken head n m pictures left h t) told
 
 ended : (names : Names) (settings : Settings) (head : FilmHead) (n : ℕ) (pictures : List Planes) (end : FilmEnd) (old mid : Seen) → Begun names settings head n old mid
     → IfSome mid.input.bytes (λ left. pictures_of most_pictures head left ≡ (pictures, end)) → IfSome old.input.bytes (λ left. IsFilm left head pictures end)
@@ -181,9 +162,14 @@ unread names settings head n old mid new b u =
     (record {
       now = from_start names settings head n u.count u.pictures old mid u.between b u.encoded.change;
       allowed = record { few = b.few; short = u.encoded.short };
-      told = begins names settings head n u.pictures old mid b u.encoded.told;
+      whole = n + u.encoded.whole;
+      within = also n u.encoded.whole u.count u.encoded.within;
+      told = taken names settings head n u.encoded.whole u.pictures old mid b u.encoded.told;
     })
     u.failed
+  where
+    also : (n a b : ℕ) → a ≤ b → n + a ≤ n + b
+    also n a b h = omega arith
 
 next_read : (names : Names) (settings : Settings) (head : FilmHead) (n : ℕ) (old mid new : Seen) → Begun names settings head n old mid → (r : PictureRead head settings mid new) → NextRead names settings old new
 next_read names settings head n old mid new b r = record {
@@ -193,7 +179,7 @@ next_read names settings head n old mid new b r = record {
   source = r.source;
   now = from_start names settings head n r.count r.pictures old mid new b r.change;
   allowed = record { few = b.few; short = r.short };
-  told = begins names settings head n (r.pictures ++ r.source ∷ []) old mid b r.told;
+  told = taken names settings head n r.count (r.pictures ++ r.source ∷ []) old mid b r.told;
 }
 
 unwritten : (names : Names) (settings : Settings) (head : FilmHead) (n : ℕ) (out : Out) (old mid new : Seen) → Begun names settings head n old mid → PictureUnwritten head settings mid new out
@@ -201,7 +187,7 @@ unwritten : (names : Names) (settings : Settings) (head : FilmHead) (n : ℕ) (o
 unfolding next_read
 unwritten names settings head n Recon old mid new b (cut_head front) =
     head_cut (reading names n old)
-    (record { count = n; head = head; few = b.few; now = refl; told = head_told head n old.input.bytes b.told })
+    (record { count = n; head = head; few = b.few; now = refl; told = b.told })
     (subst (λ (s : Seen). FrontWritten Recon (head_text head) s new) b.change front)
 unwritten names settings head n _ old mid new b (cut_picture out between r short front) =
     picture_cut out between (next_read names settings head n old mid between b r) short front

@@ -1,5 +1,5 @@
 -- What the loop over the pictures does to the outside, once all places stand open.
-use Rattle.std.specs.Prelude.{ℕ, ◌≡◌, ◌++◌, true, false, List, [], ◌∷◌, length, drop, None, IfSome, Result, Ok, Err}
+use Rattle.std.specs.Prelude.{ℕ, ◌≡◌, ◌≤◌, ◌++◌, true, false, List, [], ◌∷◌, length, drop, None, IfSome, Result, Ok, Err}
 use Rattle.std.specs.List.{All}
 use Rattle.enc_edge.specs.declared.studio.Out.{Out}
 use Rattle.enc_edge.specs.declared.studio.Out.TheVariants.{Stream, Recon}
@@ -17,7 +17,7 @@ use Rattle.spec_stream.specs.Pictures.{IsPicture}
 use Rattle.spec_encoding.specs.Encoding.{encoded_picture, encoded_stream, reconstructed}
 use Rattle.encode_film.specs.declared.ends.EncodeEnd.{EncodeEnd}
 use Rattle.encode_film.specs.declared.ends.EncodeEnd.TheVariants.{Open, Read, Write, Input, Setting, Long, OutOfMemory}
-use Rattle.encode_film.specs.Films.{FirstPictures}
+use Rattle.encode_film.specs.Films.{PicturesTaken}
 use Rattle.encode_film.specs.Limits.{is_long, first_long}
 use Rattle.encode_film.specs.Outputs.{written, shown_film, PictureCut}
 
@@ -41,11 +41,13 @@ PictureLeft head settings number source old new (Err OutOfMemory) = ⊥
 
 -- ALL PICTURES
 
--- n bytes were taken and these pictures encoded
+-- n bytes were taken and these pictures encoded, which are the first `whole` of the bytes
 pub record PicturesEncoded (head : FilmHead) (settings : Settings) (n : ℕ) (pictures : List Planes) (old new : Seen) : Type 0 where
   pub change : new ≡ written (encoded_stream head settings pictures) (shown_film head settings pictures) n old
   pub short : first_long head settings 0 pictures ≡ None
-  pub told : IfSome old.input.bytes (FirstPictures head pictures)
+  pub whole : ℕ
+  pub within : whole ≤ n
+  pub told : IfSome old.input.bytes (PicturesTaken head whole pictures)
 
 -- all pictures of the bytes were encoded, and the bytes end so
 pub record PicturesEnd (head : FilmHead) (settings : Settings) (end : FilmEnd) (old new : Seen) : Type 0 where
@@ -65,14 +67,14 @@ pub record PictureUnread (head : FilmHead) (settings : Settings) (old new : Seen
   pub encoded : PicturesEncoded head settings count pictures old between
   pub failed : LaterFailed places.Input between new
 
--- pictures were encoded, and the next one was read
+-- pictures were encoded, and the next one was read, and no picture behind it
 pub record PictureRead (head : FilmHead) (settings : Settings) (old new : Seen) : Type 0 where
   pub count : ℕ
   pub pictures : List Planes
   pub source : Planes
   pub change : new ≡ written (encoded_stream head settings pictures) (shown_film head settings pictures) count old
   pub short : first_long head settings 0 pictures ≡ None
-  pub told : IfSome old.input.bytes (FirstPictures head (pictures ++ source ∷ []))
+  pub told : IfSome old.input.bytes (PicturesTaken head count (pictures ++ source ∷ []))
 
 -- a write failed: a front of the reconstruction's head was written, or pictures and a front of the next one
 pub data PictureUnwritten (head : FilmHead) (settings : Settings) (old new : Seen) : Out → Type 0 where

@@ -1,5 +1,5 @@
 -- What a run of `encode` does to the outside.
-use Rattle.std.specs.Prelude.{ℕ, ◌≡◌, ◌++◌, true, false, List, [], ◌∷◌, length, drop, Some, None, IfSome}
+use Rattle.std.specs.Prelude.{ℕ, ◌≡◌, ◌≤◌, ◌++◌, true, false, List, [], ◌∷◌, length, drop, None, IfSome}
 use Rattle.enc_edge.specs.declared.studio.Out.{Out}
 use Rattle.enc_edge.specs.declared.studio.Out.TheVariants.{Stream, Recon, Report}
 use Rattle.enc_edge.specs.declared.studio.Place.{Place}
@@ -13,7 +13,7 @@ use Rattle.spec_film.specs.Films.{Planes, Ended, Faulty, film_of}
 use Rattle.spec_film.specs.Written.{head_text}
 use Rattle.spec_words.specs.declared.Settings.{Settings}
 use Rattle.spec_encoding.specs.Encoding.{encoded_stream, reconstruction}
-use Rattle.encode_film.specs.Films.{FilmBegins, IsFilm}
+use Rattle.encode_film.specs.Films.{HeadIs, FilmTaken, IsFilm}
 use Rattle.encode_film.specs.Limits.{too_many_slices, is_long, first_long}
 use Rattle.encode_film.specs.Outputs.{Names, reading, all_open, encoding, PictureCut}
 use Rattle.encode_film.specs.Showing.{Shows, Reads}
@@ -37,13 +37,13 @@ pub record Encoded (names : Names) (settings : Settings) (old new : Seen) : Type
   pub allowed : Allowed head settings pictures
   pub whole : IfSome old.input.bytes (λ left. (drop count left ≡ []) × IsFilm left head pictures Ended)
 
--- the input stands open under its name, its head was read, and a picture doesn't have too many slices
+-- the input stands open under its name, its head was read and no byte behind it, and a picture doesn't have too many slices
 pub record HeadRead (names : Names) (settings : Settings) (old new : Seen) : Type 0 where
   pub count : ℕ
   pub head : FilmHead
   pub few : too_many_slices head settings ≡ false
   pub now : new ≡ reading names count old
-  pub told : IfSome old.input.bytes (λ left. (film_of left).head ≡ Some head)
+  pub told : IfSome old.input.bytes (HeadIs head count)
 
 -- a place couldn't be opened: nothing was written, and where it is the input, nothing was read
 abbrev pub OpenFailed : Names → Settings → Seen → Seen → Place → Type 0
@@ -52,11 +52,13 @@ OpenFailed names settings old new (Output Stream) = (mid : Seen) × HeadRead nam
 OpenFailed names settings old new (Output Recon) = (mid : Seen) × HeadRead names settings old mid × OpeningFailed (Output Recon) (opened (Output Stream) names.stream mid) new
 OpenFailed names settings old new (Output Report) = ⊥
 
--- the outside once these pictures of the film were encoded, and n bytes of the input were taken
+-- the outside once these pictures of the film were encoded, and n bytes of the input were taken: the first `whole` of them are the head and the pictures
 pub record EncodedSoFar (names : Names) (n : ℕ) (head : FilmHead) (settings : Settings) (pictures : List Planes) (old new : Seen) : Type 0 where
   pub now : new ≡ encoding names head settings pictures n old
   pub allowed : Allowed head settings pictures
-  pub told : IfSome old.input.bytes (λ left. FilmBegins left head pictures)
+  pub whole : ℕ
+  pub within : whole ≤ n
+  pub told : IfSome old.input.bytes (λ left. FilmTaken left whole head pictures)
 
 -- a read failed: before an output was opened, or after some pictures were encoded
 pub data ReadFault (names : Names) (settings : Settings) (old new : Seen) : Type 0 where
@@ -64,7 +66,7 @@ pub data ReadFault (names : Names) (settings : Settings) (old new : Seen) : Type
   in_pictures : (n : ℕ) (head : FilmHead) (pictures : List Planes) (mid : Seen)
       → EncodedSoFar names n head settings pictures old mid → LaterFailed Input mid new → ReadFault names settings old new
 
--- the outside once these pictures of the film were encoded, and the next one was read
+-- the outside once these pictures of the film were encoded, and the next one was read, and no picture behind it
 pub record NextRead (names : Names) (settings : Settings) (old new : Seen) : Type 0 where
   pub count : ℕ
   pub head : FilmHead
@@ -72,7 +74,7 @@ pub record NextRead (names : Names) (settings : Settings) (old new : Seen) : Typ
   pub source : Planes
   pub now : new ≡ encoding names head settings pictures count old
   pub allowed : Allowed head settings pictures
-  pub told : IfSome old.input.bytes (λ left. FilmBegins left head (pictures ++ source ∷ []))
+  pub told : IfSome old.input.bytes (λ left. FilmTaken left count head (pictures ++ source ∷ []))
 
 -- the outside once all pictures of the film were encoded
 pub record AllEncoded (names : Names) (settings : Settings) (old new : Seen) : Type 0 where
@@ -101,13 +103,13 @@ pub data NoFilm (names : Names) (settings : Settings) (fault : InputFault) (old 
   cut_short : (n : ℕ) (head : FilmHead) (pictures : List Planes) → new ≡ encoding names head settings pictures n old → Allowed head settings pictures
       → IfSome old.input.bytes (λ left. IsFilm left head pictures (Faulty fault)) → NoFilm names settings fault old new
 
--- the head is in order, but a picture would have too many slices: no output was opened
+-- the head is in order, but a picture would have too many slices: no output was opened, and no byte behind the head was taken
 pub record SlicesRefused (names : Names) (settings : Settings) (old new : Seen) : Type 0 where
   pub count : ℕ
   pub head : FilmHead
   pub many : too_many_slices head settings ≡ true
   pub now : new ≡ reading names count old
-  pub told : IfSome old.input.bytes (λ left. (film_of left).head ≡ Some head)
+  pub told : IfSome old.input.bytes (HeadIs head count)
 
 -- the access unit of the picture of this number, counted from 0, is too long: the pictures before it were encoded
 pub record TooLong (names : Names) (settings : Settings) (number : ℕ) (old new : Seen) : Type 0 where

@@ -12,7 +12,7 @@ pub enum SettingFault {
 /// Why a film wasn't encoded to its end.
 #[derive(Clone, Copy, Debug, PartialEq, Eq)]
 pub enum EncodeEnd {
-    /// A file couldn't be opened. Nothing was written then, and where it is the input, nothing was read.
+    /// A file couldn't be opened. Nothing was written then; where it is the input, nothing was read, and else the film's head and no more.
     Open(Place),
     /// Reading the input failed.
     Read,
@@ -27,6 +27,6 @@ pub enum EncodeEnd {
         /// The number of the picture, counted from 0.
         picture: u32,
     },
-    /// Memory was wanting. No output was opened then.
+    /// Memory was wanting. No output was opened then, and of the input the film's head was read and no more.
     OutOfMemory,
 }

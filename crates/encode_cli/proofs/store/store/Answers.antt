@@ -1,7 +1,7 @@
 use Rattle.std.proofs.Common.{refl, subst, ap, Err}
 use Rattle.spec_film.specs.declared.InputFault.TheVariants.{Form}
 use Rattle.encode_cli.specs.Pictures.{PicturesLeft}
-use Rattle.encode_cli.proofs.Running.{head_begun, stored, cut, unread, unwritten, unclosed, head_unread, no_head_there}
+use Rattle.encode_cli.proofs.Running.{head_read, head_begun, stored, cut, unread, unwritten, unclosed, head_unread, no_head_there}
 use Rattle.encode_cli.proofs.store.store.Goals as goal
 
 pub returns-in-Err-ReadFault : goal.returns-in-Err-ReadFault
@@ -15,6 +15,31 @@ returns-in-Err-Form g c =
     let seen = g.S.Studio.seen in
     no_head_there c.args.input.now c.args.output.now (seen c.args.studio.now) (seen c.open_in.new.self) (seen c.read_head.new.studio) c.in-Ok.ensures
     (c.in-Err-Form.ensures.form (ap (λ e. Err e) c.in-Err-Form.field-0-is))
+
+pub returns-in_default : goal.returns-in_default
+returns-in_default g c =
+    let seen = g.S.Studio.seen in
+    let t = c.in-Ok-read_head.ensures.ok in
+    head_read c.args.input.now c.in-Ok-read_head.head t.0 (seen c.args.studio.now) (seen c.open_in.new.self) (seen c.read_head.new.studio) c.in-Ok.ensures t.1
+
+pub returns-in_default-with_room : goal.returns-in_default-with_room
+returns-in_default-with_room g c =
+    let seen = g.S.Studio.seen in
+    let t = c.in-Ok-read_head.ensures.ok in
+    head_read c.args.input.now c.in-Ok-read_head.head t.0 (seen c.args.studio.now) (seen c.open_in.new.self) (seen c.read_head.new.studio) c.in-Ok.ensures t.1
+
+pub returns-in_default-with_room-2 : goal.returns-in_default-with_room-2
+returns-in_default-with_room-2 g c =
+    let seen = g.S.Studio.seen in
+    let t = c.in-Ok-read_head.ensures.ok in
+    head_read c.args.input.now c.in-Ok-read_head.head t.0 (seen c.args.studio.now) (seen c.open_in.new.self) (seen c.read_head.new.studio) c.in-Ok.ensures t.1
+
+pub returns-in-Err-open_out : goal.returns-in-Err-open_out
+returns-in-Err-open_out g c =
+    let seen = g.S.Studio.seen in
+    let t = c.in-Ok-read_head.ensures.ok in
+    let read = head_read c.args.input.now c.in-Ok-read_head.head t.0 (seen c.args.studio.now) (seen c.open_in.new.self) (seen c.read_head.new.studio) c.in-Ok.ensures t.1 in
+    (seen c.read_head.new.studio, read, c.in-Err-open_out.ensures)
 
 pub returns-in-Err-Read : goal.returns-in-Err-Read
 returns-in-Err-Read g c =
