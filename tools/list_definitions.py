@@ -24,7 +24,7 @@ RUN = CRATES / "encode_cli" / "src" / "run.rt"
 
 # The parts of the list: a heading, and the names that the part begins with. The last one takes what the contract of `run` names besides.
 PARTS = [
-    ("What a decoder shows and reads", [("spec_decoding", "Frames", "decode"), ("spec_decoding", "Frames", "slices_read")]),
+    ("What a decoder shows and reads", [("spec_decoder", "Frames", "decode"), ("spec_decoder", "Frames", "slices_read")]),
     (
         "What an encoding and a stored stream are",
         [

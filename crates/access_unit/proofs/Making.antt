@@ -4,11 +4,11 @@ use Rattle.std.specs.Prelude.{IsErr}
 use Rattle.std.proofs.lemmas.Bool.{false≢true}
 use Rattle.std.proofs.lemmas.List.{take_at}
 use Rattle.std.specs.Int.Count.{count_leading_zeros}
-use Rattle.spec_bits.specs.declared.heads.Field.{Field}
+use Rattle.spec_bits.specs.declared.fields.Field.{Field}
 use Rattle.spec_bits.specs.Bits.{digits, bits_of_bytes, bytes_of_bits}
 use Rattle.spec_bits.specs.Golomb.{trail_bits, ue_bits, se_bits}
 use Rattle.spec_bits.specs.Fields.{fields_bits}
-use Rattle.spec_bits.specs.Heads.{payload_of, sequence_fields, sequence_payload, picture_fields, picture_payload}
+use Rattle.spec_headers.specs.HeadFields.{payload_of, sequence_fields, sequence_payload, picture_fields, picture_payload}
 use Rattle.spec_bits.specs.Units.{EndsWell}
 use Rattle.spec_bits.proofs.Codes.{length-trail_bits, trail_whole}
 use Rattle.spec_bits.proofs.Digits.{bits_of_bytes-append, length-bits_of_bytes}

@@ -3,17 +3,18 @@ use Rattle.std.proofs.Common.{◌≡◌, ℕ, ◌+◌, ◌-◌, ◌*◌, ◌/◌
 use Rattle.std.specs.Prelude.{IsErr, OnOk}
 use Rattle.std.proofs.lemmas.Bool.Decides.{nat_tests}
 use Rattle.spec_bits.specs.Bits.{bits_of_bytes}
-use Rattle.spec_bits.specs.Heads.{sequence_payload, picture_payload}
+use Rattle.spec_headers.specs.HeadFields.{sequence_payload, picture_payload}
 use Rattle.spec_bits.specs.Units.{unit_bytes}
 use Rattle.spec_bits.proofs.Digits.{length-bits_of_bytes}
 use Rattle.spec_film.specs.declared.FilmHead.{FilmHead}
 use Rattle.spec_film.specs.Films.{Planes}
 use Rattle.spec_words.specs.declared.Settings.{Settings}
-use Rattle.spec_stream.specs.Decode.{across_of, down_of}
-use Rattle.spec_encoding.specs.Frames.{format_of, picture_of}
+use Rattle.spec_decoder.specs.Sets.{across_of, down_of}
+use Rattle.spec_decoder.specs.Macroblocks.{format_of}
+use Rattle.spec_encoding.specs.Frames.{picture_of}
 use Rattle.spec_encoding.specs.Coding.{Settled, coded_picture}
 use Rattle.spec_encoding.specs.Encoding.{sequence_of, settled, encoded_picture}
-use Rattle.spec_slice_layer.specs.Layer.{Slice}
+use Rattle.spec_slice_payload.specs.Layer.{Slice}
 use Rattle.bit_strings.specs.BitText.{BitText, Appends}
 use Rattle.picture_planes.specs.declared.picture.Picture.{Picture}
 use Rattle.picture_planes.specs.Clamped.{rounded}

@@ -1,6 +1,6 @@
 -- The payload of a parameter set.
 use Rattle.std.specs.Prelude.{Bool, List, ◌++◌, length}
-use Rattle.spec_bits.specs.declared.heads.Field.{Field}
+use Rattle.spec_bits.specs.declared.fields.Field.{Field}
 use Rattle.spec_bits.specs.Fields.{fields_bits}
 use Rattle.spec_bits.specs.Golomb.{trail_bits}
 

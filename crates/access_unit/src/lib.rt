@@ -1,4 +1,5 @@
-//! Access units of IDR pictures: the parameter sets, and the units of the picture's slices (ITU-T H.264, clause 7.4.1.2.3).
+//! Access units of IDR pictures: the parameter sets, and the units of the picture's slices (ITU-T H.264, clause
+//! 7.4.1.2.3).
 #![tactic(auto)]
 
 mod sets;

@@ -1,7 +1,7 @@
 // The parameter sets of a picture.
 ghost use Rattle.std.specs.Prelude.{◌≡◌, ◌≤◌, ◌%◌, ◌++◌, true, length};
 ghost use Rattle.spec_bits.specs.Bits.{bits_of_bytes};
-ghost use Rattle.spec_bits.specs.Heads.{sequence_fields, sequence_payload, picture_fields, picture_payload};
+ghost use Rattle.spec_headers.specs.HeadFields.{sequence_fields, sequence_payload, picture_fields, picture_payload};
 ghost use Rattle.spec_bits.specs.Units.{unit_bytes};
 ghost use Rattle.spec_film.specs.Films.{AllowedHead};
 ghost use Rattle.spec_encoding.specs.Encoding.{sequence_of};
@@ -9,16 +9,10 @@ ghost use Rattle.bit_strings.specs.BitText.{Appends};
 ghost use Rattle.access_unit.specs.Ended.{ended};
 
 use bit_strings::{BitBuf, Full};
+use enc_tables::{HIGHEST_REF_IDC, UNIT_PICTURE_SET, UNIT_SEQUENCE_SET};
 use nal_writer::unit;
 use param_sets::{SeqHead, write_pps, write_sps};
 use spec_film::FilmHead;
-
-// nal_unit_type of the two sets (ITU-T H.264, table 7-1), and nal_ref_idc of each.
-const SEQUENCE_SET: u8 = 7;
-
-const PICTURE_SET: u8 = 8;
-
-const REFERENCE: u8 = 3;
 
 fn make_sequence(payload: &mut BitBuf, head: &FilmHead)
     requires head { AllowedHead head.now }
@@ -26,6 +20,7 @@ fn make_sequence(payload: &mut BitBuf, head: &FilmHead)
     ensures { payload.new ≡ record payload.old { text = ended (sequence_fields (sequence_of head.now)) } }
 {
     payload.clear();
+    // 4096 bits are room enough for a parameter set.
     let _ = write_sps(
         payload,
         &SeqHead {
@@ -36,6 +31,7 @@ fn make_sequence(payload: &mut BitBuf, head: &FilmHead)
             timing: None,
         },
     );
+    // And for its trailing bits.
     let _ = payload.trail();
 }
 
@@ -44,13 +40,14 @@ fn make_picture_set(payload: &mut BitBuf, t8x8: bool)
     ensures { payload.new ≡ record payload.old { text = ended (picture_fields true t8x8) } }
 {
     payload.clear();
+    // 4096 bits are room enough for a parameter set.
     let _ = write_pps(payload, true, t8x8);
     let _ = payload.trail();
 }
 
-/// Appends the parameter sets of a film's pictures: the unit of a sequence parameter set of level 5.1 and that of a picture parameter set
-/// with the arithmetic coder, which says whether 8x8 transforms may be used (`t8x8`). `payload` is room for the payload of one unit, 4096
-/// bits at least; what it holds afterwards isn't told.
+/// Appends the parameter sets of a film's pictures: the unit of a sequence parameter set of level 5.1 and that of a
+/// picture parameter set with the arithmetic coder, which says whether 8x8 transforms may be used (`t8x8`). `payload`
+/// is room for the payload of one unit, 4096 bits at least; what it holds afterwards isn't told.
 ///
 /// `Full` comes exactly where the two units don't fit; the buffer is then unchanged.
 pub fn write_parameter_sets(
@@ -68,11 +65,27 @@ pub fn write_parameter_sets(
 {
     let start = out.len();
     make_sequence(payload, head);
-    if unit(out, REFERENCE, SEQUENCE_SET, payload.bytes(), true).is_err() {
+    if unit(
+        out,
+        HIGHEST_REF_IDC,
+        UNIT_SEQUENCE_SET,
+        payload.bytes(),
+        true,
+    )
+    .is_err()
+    {
         return Err(Full);
     }
     make_picture_set(payload, t8x8);
-    if unit(out, REFERENCE, PICTURE_SET, payload.bytes(), true).is_err() {
+    if unit(
+        out,
+        HIGHEST_REF_IDC,
+        UNIT_PICTURE_SET,
+        payload.bytes(),
+        true,
+    )
+    .is_err()
+    {
         out.cut(start);
         return Err(Full);
     }

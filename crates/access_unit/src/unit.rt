@@ -5,11 +5,11 @@ ghost use Rattle.picture_planes.specs.Pictures.{planes_of};
 ghost use Rattle.bit_strings.specs.BitText.{Appends};
 ghost use Rattle.spec_bits.specs.Bits.{bits_of_bytes};
 ghost use Rattle.spec_film.specs.Films.{AllowedHead};
-ghost use Rattle.spec_stream.specs.Decode.{across_of, down_of};
+ghost use Rattle.spec_decoder.specs.Sets.{across_of, down_of};
 ghost use Rattle.spec_encoding.specs.Frames.{picture_of};
 ghost use Rattle.spec_encoding.specs.Coding.{coded_picture};
 ghost use Rattle.spec_encoding.specs.Encoding.{sequence_of, settled, encoded_picture};
-ghost use Rattle.picture_coder.specs.Coders.{IsMadeFor, HasPlans, OnlyPlansDiffer, OnlyPictureDiffers};
+ghost use Rattle.picture_coder.specs.Coders.{lent_picture, payload_room, IsMadeFor, HasPlans, OnlyPlansDiffer, OnlyPictureDiffers};
 ghost use Rattle.picture_coder.specs.Sizes.{HasSizes};
 
 use crate::sets::write_parameter_sets;
@@ -46,8 +46,8 @@ fn job_of<'a>(settings: &Settings, number: u32, source: &'a Picture) -> Job<'a>
     }
 }
 
-/// Plans the picture whose access unit is to be coded: all rows, each as a row of its slice. `source` has the film's sizes, rounded up to
-/// multiples of 16. The gate is asked before each row.
+/// Plans the picture whose access unit is to be coded: all rows, each as a row of its slice. `source` has the film's
+/// sizes, rounded up to multiples of 16. The gate is asked before each row.
 pub fn plan_access_unit<R, G: Gate + Sync>(
     rt: &R,
     coder: &mut PictureCoder,
@@ -65,14 +65,15 @@ pub fn plan_access_unit<R, G: Gate + Sync>(
     coder.plan(rt, &job_of(settings, 0, source), gate);
 }
 
-/// Codes the picture of this number, counted from 0, by the plans that were made of it, and appends its access unit: its parameter sets and
-/// the units of its slices. Its quantisation parameter is two below the one of the settings, and at least 0. The coder's decoded picture
-/// is then the one that a decoder shows, not cropped.
+/// Codes the picture of this number, counted from 0, by the plans that were made of it, and appends its access unit:
+/// its parameter sets and the units of its slices. Its quantisation parameter is two below the one of the settings,
+/// and at least 0. The coder's decoded picture is then the one that a decoder shows, not cropped.
 ///
-/// `payload` is room for the payload of a parameter set, 4096 bits at least; what it holds afterwards isn't told. `out` may have no more
-/// room left than the coder has for a payload.
+/// `payload` is room for the payload of a parameter set, 4096 bits at least; what it holds afterwards isn't told.
+/// `out` may have no more room left than the coder has for a payload.
 ///
-/// `Full` comes exactly where the access unit doesn't fit the room of `out`, which is then as before. The plans stay in any case.
+/// `Full` comes exactly where the access unit doesn't fit the room of `out`, which is then as before. The plans stay
+/// in any case.
 pub fn code_access_unit<R>(
     rt: &R,
     coder: &mut PictureCoder,
@@ -89,10 +90,10 @@ pub fn code_access_unit<R>(
     requires source { HasSizes head.now.width head.now.height source.now }
     requires planned { HasPlans coder.old settings.now.t8x8 (planes_of source.now) }
     requires payload { 4096 ≤ payload.old.room }
-    requires room { out.old.room ≤ length out.old.text + coder.old.room }
+    requires room { out.old.room ≤ length out.old.text + payload_room coder.old }
     requires whole { length out.old.text % 8 ≡ 0 }
     ensures unit { Appends out.old out.new (bits_of_bytes (encoded_picture head.now settings.now number (planes_of source.now))) result }
-    ensures decoded { OnOk result (planes_of coder.new.picture ≡ picture_of (across_of (sequence_of head.now)) (down_of (sequence_of head.now)) [] (coded_picture (settled head.now settings.now) number (planes_of source.now))) }
+    ensures decoded { OnOk result (planes_of (lent_picture coder.new) ≡ picture_of (across_of (sequence_of head.now)) (down_of (sequence_of head.now)) [] (coded_picture (settled head.now settings.now) number (planes_of source.now))) }
     ensures whole { length out.new.text % 8 ≡ 0 }
     ensures planned { HasPlans coder.new settings.now.t8x8 (planes_of source.now) }
     ensures made { IsMadeFor coder.new head.now.width head.now.height settings.now.slices }

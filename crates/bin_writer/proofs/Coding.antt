@@ -1,8 +1,8 @@
 -- Bins coded one after another.
 use Rattle.std.proofs.Common.{◌≡◌, false, List, [], ◌∷◌, ◌++◌, refl, sym, subst}
 use Rattle.spec_syntax.specs.declared.Bin.{Bin}
-use Rattle.spec_slice.specs.Decoding.{GoesOn}
-use Rattle.spec_slice.proofs.Decoded.{goes_on_append}
+use Rattle.spec_slice_data.specs.Coding.{GoesOn}
+use Rattle.spec_slice_data.proofs.Decoded.{goes_on_append}
 use Rattle.cabac_coder.specs.State.{CoderState}
 use Rattle.bin_writer.specs.Coding.{Coding, code_bin, code_all, IsReady, Codes, CodesPlain, coding}
 

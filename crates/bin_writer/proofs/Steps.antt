@@ -14,7 +14,8 @@ use Rattle.spec_cabac.specs.Bins.Request.{Context}
 use Rattle.spec_cabac.specs.Bins.Bin.{Answered}
 use Rattle.spec_syntax.specs.declared.Bin.{Bin}
 use Rattle.spec_syntax.specs.Syntax.{at}
-use Rattle.spec_slice.specs.Decoding.{is_bypass, is_terminate, request, after, ends_code, GoesOn}
+use Rattle.spec_slice_data.specs.Decoding.{is_bypass, is_terminate, request, after}
+use Rattle.spec_slice_data.specs.Coding.{ends_code, GoesOn}
 use Rattle.cabac_coder.specs.State.{CoderState, coded_of, stepped, FullAt}
 use Rattle.bin_writer.specs.Coding.{Coding, is_full_at, bin_step, code_bin, IsReady, Codes, CodesPlain, IsCodable, coding}
 use Rattle.bin_writer.proofs.Coding.{code_one}

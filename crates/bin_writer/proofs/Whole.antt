@@ -5,7 +5,8 @@ use Rattle.std.proofs.lemmas.Bool.{false≢true}
 use Rattle.spec_cabac.specs.Code.{Coded}
 use Rattle.spec_cabac.proofs.Ranges.{shifts-run}
 use Rattle.spec_syntax.specs.declared.Bin.{Bin}
-use Rattle.spec_slice.specs.Decoding.{asked, after, after_all}
+use Rattle.spec_slice_data.specs.Coding.{asked}
+use Rattle.spec_slice_data.specs.Decoding.{after, after_all}
 use Rattle.cabac_coder.specs.State.{CoderState, stepped}
 use Rattle.bin_writer.specs.Coding.{Coding, coding, is_full_at, bin_step, bins_step, code_bin, code_all, Codes, Written}
 use Rattle.bin_writer.proofs.Steps.{full_true, full_back}

@@ -5,7 +5,8 @@ use Rattle.spec_contexts.specs.States.{AllKnown}
 use Rattle.spec_cabac.specs.Code.{Coded, step, run}
 use Rattle.spec_cabac.specs.Bins.Bin.{Answered}
 use Rattle.spec_syntax.specs.declared.Bin.{Bin}
-use Rattle.spec_slice.specs.Decoding.{request, after, asked, after_all, ends_code, GoesOn}
+use Rattle.spec_slice_data.specs.Decoding.{request, after, after_all}
+use Rattle.spec_slice_data.specs.Coding.{asked, ends_code, GoesOn}
 use Rattle.cabac_coder.specs.State.{CoderState, coded_of, stepped, FullAt}
 use Rattle.cabac_contexts.specs.declared.states.Contexts.{Contexts}
 

@@ -1,6 +1,8 @@
-//! Bins of syntax elements through the arithmetic coder, each with the state of its context (ITU-T H.264, clause 9.3.4.2).
+//! Bins of syntax elements through the arithmetic coder, each with the state of its context (ITU-T H.264, clause
+//! 9.3.4.2).
 //!
-//! The calls answer nothing: from the first bin that doesn't fit on nothing more is coded, and `Coder::is_full` tells it.
+//! The calls answer nothing: from the first bin that doesn't fit on nothing more is coded, and `Coder::is_full` tells
+//! it.
 #![tactic(auto)]
 
 ghost use Rattle.std.specs.Prelude.{◌≡◌, ◌≢◌, ◌<◌, ℕ, [], ◌∷◌, false, true, ◌↔◌, IsErr};
@@ -13,7 +15,8 @@ use cabac_coder::Coder;
 use cabac_contexts::{Contexts, state};
 use spec_syntax::Bin;
 
-/// Codes a bin by the state of a context, which then follows it. The context is below 436, and isn't that of the bins before termination.
+/// Codes a bin by the state of a context, which then follows it. The context is below 436, and isn't that of the bins
+/// before termination.
 #[inline]
 pub fn code_bin(coder: &mut Coder, contexts: &mut Contexts, context: u16, bit: bool)
     requires ready { IsReady (seen coder.old contexts.old) }
@@ -21,6 +24,7 @@ pub fn code_bin(coder: &mut Coder, contexts: &mut Contexts, context: u16, bit: b
     requires has_state { context ≢ 276 }
     ensures { Codes (seen coder.old contexts.old) (at context bit ∷ []) (seen coder.new contexts.new) }
 {
+    // That the code is full stays known to the coder.
     let _ = coder.bin(state(&mut contexts.states, context), bit);
 }
 
@@ -30,6 +34,7 @@ pub fn code_bypass(coder: &mut Coder, bit: bool)
     requires { coder.old.ended ≡ false }
     ensures { CodesPlain coder.old (at 1000 bit ∷ []) coder.new }
 {
+    // That the code is full stays known to the coder.
     let _ = coder.bypass(bit);
 }
 
@@ -39,6 +44,7 @@ pub fn code_no_end(coder: &mut Coder)
     requires { coder.old.ended ≡ false }
     ensures { CodesPlain coder.old (at 276 false ∷ []) coder.new }
 {
+    // That the code is full stays known to the coder.
     let _ = coder.terminate(false);
 }
 

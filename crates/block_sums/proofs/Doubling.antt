@@ -1,6 +1,7 @@
 -- Sums of more and more items, by passes that double their number.
 use Rattle.std.proofs.Common.{◌≡◌, ℕ, zero, suc, ◌+◌, ◌-◌, ◌*◌, ◌<◌, ◌≤◌, List, length, get_or, refl, sym, ap, ◌∙◌, arith, w8, Fits}
-use Rattle.spec_kernels.specs.Sums.{sum_below, block_sum}
+use Rattle.spec_basics.specs.Sums.{sum_below}
+use Rattle.spec_kernels.specs.Sums.{block_sum}
 use Rattle.spec_kernels.proofs.SumLaws.{sum-zero, sum-more, sum-same, sum-add}
 use Rattle.block_sums.specs.Passes.{AddedAhead, EightAhead, SquareAhead, AtMost}
 

@@ -1,6 +1,7 @@
 -- Lists of sums to which items further on are added.
 use Rattle.std.specs.Prelude.{ℕ, List, length, slice_index, ◌+◌, ◌*◌, ◌<◌, ◌≤◌, ◌≡◌}
-use Rattle.spec_kernels.specs.Sums.{sum_below, block_sum}
+use Rattle.spec_basics.specs.Sums.{sum_below}
+use Rattle.spec_kernels.specs.Sums.{block_sum}
 
 -- no item is above b
 pub record AtMost (b : ℕ) (xs : List ℕ) : Type 0 where

@@ -2,7 +2,8 @@
 use Rattle.std.proofs.Common.{◌≡◌, ◌<◌, ◌≤◌, ℕ, false, nat_eq, ◌==◌, bit_and, map, get_or, slice_index_or, refl, sym, ap, ◌∙◌, arith}
 use Rattle.std.proofs.lemmas.List.FromFn.{get_or-map-range_with_len}
 use Rattle.std.specs.List.{range_with_len}
-use Rattle.spec_contexts.specs.Near.{column4, row4, left_block4, above_block4}
+use Rattle.spec_basics.specs.Blocks.{block_column, block_row}
+use Rattle.spec_contexts.specs.Near.{left_block4, above_block4}
 use Rattle.cabac_contexts.specs.declared.near.TheConstants.{LEFT4, ABOVE4}
 
 -- functions with the same values at the numbers below n
@@ -20,8 +21,8 @@ pub above4_is : (b : ℕ) → b ≤ 15 → slice_index_or ABOVE4 b 0 ≡ above_b
 unfolding above_block4
 above4_is b h = same_below (λ k. slice_index_or ABOVE4 k 0) above_block4 0 16 refl b (omega arith)
 
-pub leftmost4_is : (b : ℕ) → b ≤ 15 → nat_eq (bit_and b 5) 0 ≡ (column4 b == 0)
-leftmost4_is b h = same_below (λ k. nat_eq (bit_and k 5) 0) (λ k. column4 k == 0) false 16 refl b (omega arith)
+pub leftmost4_is : (b : ℕ) → b ≤ 15 → nat_eq (bit_and b 5) 0 ≡ (block_column b == 0)
+leftmost4_is b h = same_below (λ k. nat_eq (bit_and k 5) 0) (λ k. block_column k == 0) false 16 refl b (omega arith)
 
-pub upmost4_is : (b : ℕ) → b ≤ 15 → nat_eq (bit_and b 10) 0 ≡ (row4 b == 0)
-upmost4_is b h = same_below (λ k. nat_eq (bit_and k 10) 0) (λ k. row4 k == 0) false 16 refl b (omega arith)
+pub upmost4_is : (b : ℕ) → b ≤ 15 → nat_eq (bit_and b 10) 0 ≡ (block_row b == 0)
+upmost4_is b h = same_below (λ k. nat_eq (bit_and k 10) 0) (λ k. block_row k == 0) false 16 refl b (omega arith)

@@ -4,7 +4,6 @@ ghost use Rattle.spec_contexts.specs.Near.{pointed};
 ghost use Rattle.spec_contexts.specs.Increments.{some_level, luma_levels, coded_flag, luma_dc_coded as luma_dc_coded_of, luma_coded as luma_coded_of, chroma_dc_coded as chroma_dc_coded_of, chroma_ac_coded as chroma_ac_coded_of, inc_luma as inc_luma_of, inc_luma_dc as inc_luma_dc_of, inc_chroma_dc as inc_chroma_dc_of, inc_chroma_ac as inc_chroma_ac_of, inc_coded as inc_coded_of};
 
 use crate::increments::{doubled, has_bit};
-use crate::kinds::{is_16x16, is_intra, is_pcm, is_skipped};
 use crate::near::{
     above_block2, above_block4, above_of2, above_of4, left_block2, left_block4, left_of2, left_of4,
 };
@@ -22,7 +21,7 @@ fn has_level(levels: &[i16]) -> bool
 fn luma_dc_coded(mb: &MbRecord) -> bool
     ensures { result ≡ luma_dc_coded_of mb.now }
 {
-    is_16x16(mb.kind) && has_level(&mb.luma_dc)
+    mb.kind.is_16x16() && has_level(&mb.luma_dc)
 }
 
 // With 8x8 transforms the bit of the 8x8 block alone counts.
@@ -79,8 +78,8 @@ fn luma_dc_flag(mb: &MbRecord, near: Option<&MbRecord>) -> bool
     ensures { result ≡ coded_flag mb.now luma_dc_coded_of (pointed near.entry) }
 {
     match near {
-        Some(n) => is_pcm(n.kind) || (!is_skipped(n.kind) && luma_dc_coded(n)),
-        None => is_intra(mb.kind),
+        Some(n) => n.kind.is_pcm() || (!n.kind.is_skipped() && luma_dc_coded(n)),
+        None => mb.kind.is_intra(),
     }
 }
 
@@ -89,8 +88,8 @@ fn luma_flag(mb: &MbRecord, near: Option<&MbRecord>, block: u8) -> bool
     ensures { result ≡ coded_flag mb.now (luma_coded_of block) (pointed near.entry) }
 {
     match near {
-        Some(n) => is_pcm(n.kind) || (!is_skipped(n.kind) && luma_coded(n, block)),
-        None => is_intra(mb.kind),
+        Some(n) => n.kind.is_pcm() || (!n.kind.is_skipped() && luma_coded(n, block)),
+        None => mb.kind.is_intra(),
     }
 }
 
@@ -99,8 +98,8 @@ fn chroma_dc_flag(mb: &MbRecord, near: Option<&MbRecord>, component: u8) -> bool
     ensures { result ≡ coded_flag mb.now (chroma_dc_coded_of component) (pointed near.entry) }
 {
     match near {
-        Some(n) => is_pcm(n.kind) || (!is_skipped(n.kind) && chroma_dc_coded(n, component)),
-        None => is_intra(mb.kind),
+        Some(n) => n.kind.is_pcm() || (!n.kind.is_skipped() && chroma_dc_coded(n, component)),
+        None => mb.kind.is_intra(),
     }
 }
 
@@ -110,8 +109,9 @@ fn chroma_ac_flag(mb: &MbRecord, near: Option<&MbRecord>, component: u8, block: 
     ensures { result ≡ coded_flag mb.now (chroma_ac_coded_of component block) (pointed near.entry) }
 {
     match near {
-        Some(n) => is_pcm(n.kind) || (!is_skipped(n.kind) && chroma_ac_coded(n, component, block)),
-        None => is_intra(mb.kind),
+        Some(n) => n.kind.is_pcm()
+            || (!n.kind.is_skipped() && chroma_ac_coded(n, component, block)),
+        None => mb.kind.is_intra(),
     }
 }
 

@@ -3,7 +3,6 @@ ghost use Rattle.std.specs.Prelude.{◌≡◌, ◌≤◌, ◌==◌, not, if◌th
 ghost use Rattle.spec_contexts.specs.Near.{pointed};
 ghost use Rattle.spec_contexts.specs.Increments.{bit_of, weight as weight_of, plain as plain_of, doubled as doubled_of, skip_flag as skip_flag_of, type_i_flag as type_i_flag_of, type_b_flag as type_b_flag_of, chroma_mode_flag as chroma_mode_flag_of, transform_flag as transform_flag_of, luma_cbp_flag as luma_cbp_flag_of, chroma_cbp_flag as chroma_cbp_flag_of, inc_skip as inc_skip_of, inc_type_i as inc_type_i_of, inc_type_b as inc_type_b_of, inc_chroma_mode as inc_chroma_mode_of, inc_transform as inc_transform_of, inc_qp_delta as inc_qp_delta_of, inc_luma_cbp as inc_luma_cbp_of, inc_chroma_cbp as inc_chroma_cbp_of};
 
-use crate::kinds::{is_direct, is_intra, is_nxn, is_pcm, is_skipped};
 use crate::near::{above_block2, above_of2, left_block2, left_of2};
 use enc_tables::MbRecord;
 
@@ -37,7 +36,7 @@ fn skip_flag(near: Option<&MbRecord>) -> bool
     ensures { result ≡ skip_flag_of (pointed near.entry) }
 {
     match near {
-        Some(mb) => !is_skipped(mb.kind),
+        Some(mb) => !mb.kind.is_skipped(),
         None => false,
     }
 }
@@ -46,7 +45,7 @@ fn type_i_flag(near: Option<&MbRecord>) -> bool
     ensures { result ≡ type_i_flag_of (pointed near.entry) }
 {
     match near {
-        Some(mb) => !is_nxn(mb.kind),
+        Some(mb) => !mb.kind.is_nxn(),
         None => false,
     }
 }
@@ -55,7 +54,7 @@ fn type_b_flag(near: Option<&MbRecord>) -> bool
     ensures { result ≡ type_b_flag_of (pointed near.entry) }
 {
     match near {
-        Some(mb) => !is_direct(mb.kind),
+        Some(mb) => !mb.kind.is_direct(),
         None => false,
     }
 }
@@ -64,7 +63,7 @@ fn chroma_mode_flag(near: Option<&MbRecord>) -> bool
     ensures { result ≡ chroma_mode_flag_of (pointed near.entry) }
 {
     match near {
-        Some(mb) => is_intra(mb.kind) && !is_pcm(mb.kind) && mb.chroma_mode != 0,
+        Some(mb) => mb.kind.is_intra() && !mb.kind.is_pcm() && mb.chroma_mode != 0,
         None => false,
     }
 }
@@ -92,7 +91,7 @@ fn luma_cbp_flag(near: Option<&MbRecord>, block: u8) -> bool
     ensures { result ≡ luma_cbp_flag_of block (pointed near.entry) }
 {
     match near {
-        Some(mb) => !is_pcm(mb.kind) && (is_skipped(mb.kind) || !has_bit(mb.luma_cbp, block)),
+        Some(mb) => !mb.kind.is_pcm() && (mb.kind.is_skipped() || !has_bit(mb.luma_cbp, block)),
         None => false,
     }
 }
@@ -101,7 +100,8 @@ fn chroma_cbp_flag(near: Option<&MbRecord>, second: bool) -> bool
     ensures { result ≡ chroma_cbp_flag_of second (pointed near.entry) }
 {
     match near {
-        Some(mb) => is_pcm(mb.kind) || (!is_skipped(mb.kind) && has_chroma(mb.chroma_cbp, second)),
+        Some(mb) => mb.kind.is_pcm()
+            || (!mb.kind.is_skipped() && has_chroma(mb.chroma_cbp, second)),
         None => false,
     }
 }

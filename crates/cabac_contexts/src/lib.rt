@@ -4,7 +4,6 @@
 
 mod coded;
 mod increments;
-mod kinds;
 mod motion;
 mod near;
 mod states;
@@ -14,7 +13,6 @@ pub use increments::{
     has_bit, inc_chroma_cbp, inc_chroma_mode, inc_luma_cbp, inc_qp_delta, inc_skip, inc_transform,
     inc_type_b, inc_type_i,
 };
-pub use kinds::{is_16x16, is_intra, is_nxn};
 pub use motion::{inc_mvd, inc_ref};
 pub use near::{
     above_block2, above_block4, above_of2, above_of4, left_block2, left_block4, left_of2, left_of4,

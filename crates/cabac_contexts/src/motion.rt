@@ -1,18 +1,11 @@
 // The contexts of reference indices and of vector differences (ITU-T H.264, clauses 9.3.3.1.1.6 and 9.3.3.1.1.7).
 ghost use Rattle.std.specs.Prelude.{◌≡◌, ◌≤◌};
 ghost use Rattle.spec_contexts.specs.Near.{pointed};
-ghost use Rattle.spec_contexts.specs.Increments.{has_motion as has_motion_of, ref_of, mvd_of, mvd_size as mvd_size_of, mvd_class as mvd_class_of, ref_flag as ref_flag_of, inc_ref as inc_ref_of, inc_mvd as inc_mvd_of};
+ghost use Rattle.spec_contexts.specs.Increments.{ref_of, mvd_of, mvd_size as mvd_size_of, mvd_class as mvd_class_of, ref_flag as ref_flag_of, inc_ref as inc_ref_of, inc_mvd as inc_mvd_of};
 
 use crate::increments::doubled;
-use crate::kinds::{is_direct, is_intra, is_skipped};
 use crate::near::{above_block2, above_of2, left_block2, left_of2};
-use enc_tables::{MbKind, MbRecord};
-
-fn has_motion(kind: MbKind) -> bool
-    ensures { result ≡ has_motion_of kind }
-{
-    !is_intra(kind) && !is_skipped(kind) && !is_direct(kind)
-}
+use enc_tables::MbRecord;
 
 // The reference index of an 8x8 block.
 fn reference(mb: &MbRecord, list: u8, block: u8) -> i8
@@ -29,7 +22,7 @@ fn ref_flag(near: Option<&MbRecord>, list: u8, block: u8) -> bool
     ensures { result ≡ ref_flag_of list block (pointed near.entry) }
 {
     match near {
-        Some(mb) => has_motion(mb.kind) && reference(mb, list, block) > 0,
+        Some(mb) => mb.kind.has_motion() && reference(mb, list, block) > 0,
         None => false,
     }
 }
@@ -51,7 +44,7 @@ fn mvd_size(near: Option<&MbRecord>, list: u8, block: u8, vertical: bool) -> u32
     ensures most { result ≤ 32768 }
 {
     match near {
-        Some(mb) if has_motion(mb.kind) && reference(mb, list, block) >= 0 => {
+        Some(mb) if mb.kind.has_motion() && reference(mb, list, block) >= 0 => {
             difference(mb, list, block, vertical).unsigned_abs() as u32
         }
         _ => 0,

@@ -1,6 +1,7 @@
 // The macroblocks and blocks at the left and above (ITU-T H.264, clauses 6.4.11 and 6.4.12).
 ghost use Rattle.std.specs.Prelude.{◌≡◌, ◌==◌, ◌<◌, ◌≤◌, if◌then◌else◌};
-ghost use Rattle.spec_contexts.specs.Near.{pointed, column4, row4, left_holder2, above_holder2, left_holder4, above_holder4, left_block2 as left2_of, above_block2 as above2_of, left_block4 as left4_of, above_block4 as above4_of};
+ghost use Rattle.spec_contexts.specs.Near.{pointed, left_holder2, above_holder2, left_holder4, above_holder4, left_block2 as left2_of, above_block2 as above2_of, left_block4 as left4_of, above_block4 as above4_of};
+ghost use Rattle.spec_basics.specs.Blocks.{block_column, block_row};
 
 use enc_tables::MbRecord;
 
@@ -76,7 +77,7 @@ pub fn above_of2<'a>(
 #[inline]
 fn is_leftmost4(block: u8) -> bool
     requires { block ≤ 15 }
-    ensures { result ≡ (column4 block == 0) }
+    ensures { result ≡ (block_column block == 0) }
 {
     block & 5 == 0
 }
@@ -85,7 +86,7 @@ fn is_leftmost4(block: u8) -> bool
 #[inline]
 fn is_upmost4(block: u8) -> bool
     requires { block ≤ 15 }
-    ensures { result ≡ (row4 block == 0) }
+    ensures { result ≡ (block_row block == 0) }
 {
     block & 10 == 0
 }

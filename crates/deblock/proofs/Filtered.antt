@@ -6,7 +6,7 @@ use Rattle.enc_tables.specs.declared.records.MbRecord.{MbRecord}
 use Rattle.spec_film.specs.Films.{Planes}
 use Rattle.picture_planes.specs.declared.plane.Plane.{Plane}
 use Rattle.picture_planes.specs.declared.picture.Picture.{Picture}
-use Rattle.picture_planes.specs.Samples.{row_start, samples_of, SameShape}
+use Rattle.picture_planes.specs.Samples.{buffer, row_start, samples_of, SameShape}
 use Rattle.picture_planes.specs.Pictures.{planes_of}
 use Rattle.picture_planes.proofs.RowLaws.{row_fits}
 use Rattle.picture_planes.proofs.SampleLaws.{samples_length, row_of_samples}
@@ -32,33 +32,33 @@ pub filtered_none : (edges : ℕ → MbEdges) (width : ℕ) (p : Picture) → Fi
 unfolding luma_filtered chroma_filtered
 filtered_none edges width p = record {
   shapes = ((refl, refl, refl), (refl, refl, refl), (refl, refl, refl));
-  luma = steps_none _ p.y.bytes.items;
-  cb = steps_none _ p.cb.bytes.items;
-  cr = steps_none _ p.cr.bytes.items;
+  luma = steps_none _ (buffer p.y);
+  cb = steps_none _ (buffer p.cb);
+  cr = steps_none _ (buffer p.cr);
 }
 
 luma_more : (edges : ℕ → MbEdges) (width m : ℕ) (e : MbEdges) (old mid new : Plane) → e ≡ edges m → SameShape old mid
-    → mid.bytes.items ≡ luma_filtered edges width (layout_of old) m old.bytes.items
-    → new.bytes.items ≡ luma_macroblock e (layout_of mid) (m % width) (m / width) mid.bytes.items
-    → new.bytes.items ≡ luma_filtered edges width (layout_of old) (m + 1) old.bytes.items
+    → buffer mid ≡ luma_filtered edges width (layout_of old) m (buffer old)
+    → buffer new ≡ luma_macroblock e (layout_of mid) (m % width) (m / width) (buffer mid)
+    → buffer new ≡ luma_filtered edges width (layout_of old) (m + 1) (buffer old)
 unfolding luma_filtered
 luma_more edges width m e old mid new is shape so_far next =
-    steps_more (λ i. luma_macroblock (edges i) (layout_of old) (i % width) (i / width)) m old.bytes.items mid.bytes.items new.bytes.items so_far
-    (next ∙ ap₂ (λ (a : MbEdges) (at : Layout). luma_macroblock a at (m % width) (m / width) mid.bytes.items) is (layout_same old mid shape))
+    steps_more (λ i. luma_macroblock (edges i) (layout_of old) (i % width) (i / width)) m (buffer old) (buffer mid) (buffer new) so_far
+    (next ∙ ap₂ (λ (a : MbEdges) (at : Layout). luma_macroblock a at (m % width) (m / width) (buffer mid)) is (layout_same old mid shape))
 
 chroma_more : (edges : ℕ → MbEdges) (width m : ℕ) (e : MbEdges) (old mid new : Plane) → e ≡ edges m → SameShape old mid
-    → mid.bytes.items ≡ chroma_filtered edges width (layout_of old) m old.bytes.items
-    → new.bytes.items ≡ chroma_macroblock e (layout_of mid) (m % width) (m / width) mid.bytes.items
-    → new.bytes.items ≡ chroma_filtered edges width (layout_of old) (m + 1) old.bytes.items
+    → buffer mid ≡ chroma_filtered edges width (layout_of old) m (buffer old)
+    → buffer new ≡ chroma_macroblock e (layout_of mid) (m % width) (m / width) (buffer mid)
+    → buffer new ≡ chroma_filtered edges width (layout_of old) (m + 1) (buffer old)
 unfolding chroma_filtered
 chroma_more edges width m e old mid new is shape so_far next =
-    steps_more (λ i. chroma_macroblock (edges i) (layout_of old) (i % width) (i / width)) m old.bytes.items mid.bytes.items new.bytes.items so_far
-    (next ∙ ap₂ (λ (a : MbEdges) (at : Layout). chroma_macroblock a at (m % width) (m / width) mid.bytes.items) is (layout_same old mid shape))
+    steps_more (λ i. chroma_macroblock (edges i) (layout_of old) (i % width) (i / width)) m (buffer old) (buffer mid) (buffer new) so_far
+    (next ∙ ap₂ (λ (a : MbEdges) (at : Layout). chroma_macroblock a at (m % width) (m / width) (buffer mid)) is (layout_same old mid shape))
 
 pub filtered_more : (edges : ℕ → MbEdges) (width m : ℕ) (e : MbEdges) (old mid new : Picture) → e ≡ edges m → FilteredTo edges width m old mid
-    → SameShape mid.y new.y → new.y.bytes.items ≡ luma_macroblock e (layout_of mid.y) (m % width) (m / width) mid.y.bytes.items
-    → SameShape mid.cb new.cb → new.cb.bytes.items ≡ chroma_macroblock e (layout_of mid.cb) (m % width) (m / width) mid.cb.bytes.items
-    → SameShape mid.cr new.cr → new.cr.bytes.items ≡ chroma_macroblock e (layout_of mid.cr) (m % width) (m / width) mid.cr.bytes.items
+    → SameShape mid.y new.y → buffer new.y ≡ luma_macroblock e (layout_of mid.y) (m % width) (m / width) (buffer mid.y)
+    → SameShape mid.cb new.cb → buffer new.cb ≡ chroma_macroblock e (layout_of mid.cb) (m % width) (m / width) (buffer mid.cb)
+    → SameShape mid.cr new.cr → buffer new.cr ≡ chroma_macroblock e (layout_of mid.cr) (m % width) (m / width) (buffer mid.cr)
     → FilteredTo edges width (m + 1) old new
 filtered_more edges width m e old mid new is so_far sy ly sb lb sr lr = record {
   shapes = (shape_next old.y mid.y new.y so_far.shapes.0 sy, shape_next old.cb mid.cb new.cb so_far.shapes.1 sb, shape_next old.cr mid.cr new.cr so_far.shapes.2 sr);
@@ -71,14 +71,14 @@ filtered_more edges width m e old mid new is so_far sy ly sb lb sr lr = record {
 start_of_row : (y w pad : ℕ) → (y + pad) * (w + 2 * pad) + pad ≡ pad * (w + 2 * pad) + pad + y * (w + 2 * pad)
 start_of_row y w pad = grind arith
 
-pub plane_shows : (p : Plane) → Shows (p.pad * (p.width + 2 * p.pad) + p.pad) (p.width + 2 * p.pad) p.width p.height p.bytes.items (samples_of p)
+pub plane_shows : (p : Plane) → Shows (p.pad * (p.width + 2 * p.pad) + p.pad) (p.width + 2 * p.pad) p.width p.height (buffer p) (samples_of p)
 plane_shows p = record {
   each = λ y x hy hx.
       let start : row_start p y + x ≡ p.pad * (p.width + 2 * p.pad) + p.pad + y * (p.width + 2 * p.pad) + x = omega (arith, start_of_row y p.width p.pad) in
       let long : x < row_start p y + p.width - row_start p y = omega arith in
-      ap (λ (n : ℕ). get_or p.bytes.items n 0) (sym start)
-      ∙ sym (get_or-drop (row_start p y) p.bytes.items x 0)
-      ∙ sym (get_or-take (row_start p y + p.width - row_start p y) (drop (row_start p y) p.bytes.items) x 0 long)
+      ap (λ (n : ℕ). get_or (buffer p) n 0) (sym start)
+      ∙ sym (get_or-drop (row_start p y) (buffer p) x 0)
+      ∙ sym (get_or-take (row_start p y + p.width - row_start p y) (drop (row_start p y) (buffer p)) x 0 long)
       ∙ ap (λ (l : List ℕ). get_or l x 0) (row_of_samples p y hy)
       ∙ get_or-take p.width (drop (y * p.width) (samples_of p)) x 0 hx
       ∙ get_or-drop (y * p.width) (samples_of p) x 0;
@@ -87,9 +87,9 @@ plane_shows p = record {
 }
 
 -- so does the buffer of a plane of the same shape
-shows_of : (p q : Plane) → SameShape p q → Shows (p.pad * (p.width + 2 * p.pad) + p.pad) (p.width + 2 * p.pad) p.width p.height q.bytes.items (samples_of q)
+shows_of : (p q : Plane) → SameShape p q → Shows (p.pad * (p.width + 2 * p.pad) + p.pad) (p.width + 2 * p.pad) p.width p.height (buffer q) (samples_of q)
 shows_of p q s =
-    let P : ℕ → ℕ → ℕ → Type 0 = λ w h pad. Shows (pad * (w + 2 * pad) + pad) (w + 2 * pad) w h q.bytes.items (samples_of q) in
+    let P : ℕ → ℕ → ℕ → Type 0 = λ w h pad. Shows (pad * (w + 2 * pad) + pad) (w + 2 * pad) w h (buffer q) (samples_of q) in
     subst (λ (w : ℕ). P w p.height p.pad) s.0 (subst (λ (h : ℕ). P q.width h p.pad) s.1 (subst (λ (pad : ℕ). P q.width q.height pad) s.2 (plane_shows q)))
 
 module _ (pictures0 pictures1 : List ℤ) (records : List MbRecord) (width : ℕ) where
@@ -109,14 +109,14 @@ module _ (pictures0 pictures1 : List ℤ) (records : List MbRecord) (width : ℕ
   above_placed m = not_zero (m / width)
 
 luma_plane : (pictures0 pictures1 : List ℤ) (records : List MbRecord) (n : ℕ) (old new : Plane) → SameShape old new → n ≡ old.width / 16 * (old.height / 16)
-    → new.bytes.items ≡ luma_filtered (edges_of pictures0 pictures1 records (old.width / 16)) (old.width / 16) (layout_of old) n old.bytes.items
+    → buffer new ≡ luma_filtered (edges_of pictures0 pictures1 records (old.width / 16)) (old.width / 16) (layout_of old) n (buffer old)
     → samples_of new ≡ luma_filtered (edges_of pictures0 pictures1 records (old.width / 16)) (old.width / 16) (rows_of old.width) n (samples_of old)
 luma_plane pictures0 pictures1 records n old new shape count done =
     let width : ℕ = old.width / 16 in
-    shown_same (old.pad * (old.width + 2 * old.pad) + old.pad) (old.width + 2 * old.pad) old.width old.height new.bytes.items (samples_of new) _ (old.size.0)
+    shown_same (old.pad * (old.width + 2 * old.pad) + old.pad) (old.width + 2 * old.pad) old.width old.height (buffer new) (samples_of new) _ (old.size.0)
     (shows_of old new shape)
     (rw done (luma_filtered_shown (old.pad * (old.width + 2 * old.pad) + old.pad) (old.width + 2 * old.pad) old.width old.height (omega arith)
-    (edges_of pictures0 pictures1 records width) width n old.bytes.items (samples_of old)
+    (edges_of pictures0 pictures1 records width) width n (buffer old) (samples_of old)
     (λ m lt. (
       left_placed pictures0 pictures1 records width m,
       above_placed pictures0 pictures1 records width m,
@@ -133,15 +133,15 @@ half_width w v e = omega arith
 
 chroma_plane : (pictures0 pictures1 : List ℤ) (records : List MbRecord) (n luma_width luma_height : ℕ) (old new : Plane) → SameShape old new
     → old.width + old.width ≡ luma_width → old.height + old.height ≡ luma_height → n ≡ luma_width / 16 * (luma_height / 16)
-    → new.bytes.items ≡ chroma_filtered (edges_of pictures0 pictures1 records (luma_width / 16)) (luma_width / 16) (layout_of old) n old.bytes.items
+    → buffer new ≡ chroma_filtered (edges_of pictures0 pictures1 records (luma_width / 16)) (luma_width / 16) (layout_of old) n (buffer old)
     → samples_of new ≡ chroma_filtered (edges_of pictures0 pictures1 records (luma_width / 16)) (luma_width / 16) (rows_of (luma_width / 2)) n (samples_of old)
 chroma_plane pictures0 pictures1 records n luma_width luma_height old new shape wide high count done =
     let width : ℕ = luma_width / 16 in
-    shown_same (old.pad * (old.width + 2 * old.pad) + old.pad) (old.width + 2 * old.pad) old.width old.height new.bytes.items (samples_of new)
+    shown_same (old.pad * (old.width + 2 * old.pad) + old.pad) (old.width + 2 * old.pad) old.width old.height (buffer new) (samples_of new)
     (chroma_filtered (edges_of pictures0 pictures1 records width) width (rows_of old.width) n (samples_of old)) (old.size.0)
     (shows_of old new shape)
     (rw done (chroma_filtered_shown (old.pad * (old.width + 2 * old.pad) + old.pad) (old.width + 2 * old.pad) old.width old.height (omega arith)
-    (edges_of pictures0 pictures1 records width) width n old.bytes.items (samples_of old)
+    (edges_of pictures0 pictures1 records width) width n (buffer old) (samples_of old)
     (λ m lt. (
       left_placed pictures0 pictures1 records width m,
       above_placed pictures0 pictures1 records width m,
@@ -163,8 +163,8 @@ filtered_all pictures0 pictures1 records m old new count whole done =
     let edges : ℕ → MbEdges = edges_of pictures0 pictures1 records (old.y.width / 16) in
     planes_same (samples_of new.y) (samples_of new.cb) (samples_of new.cr) _ _ _
     (luma_plane pictures0 pictures1 records n old.y new.y done.shapes.0 count
-    (done.luma ∙ ap (λ (k : ℕ). luma_filtered edges (old.y.width / 16) (layout_of old.y) k old.y.bytes.items) whole))
+    (done.luma ∙ ap (λ (k : ℕ). luma_filtered edges (old.y.width / 16) (layout_of old.y) k (buffer old.y)) whole))
     (chroma_plane pictures0 pictures1 records n old.y.width old.y.height old.cb new.cb done.shapes.1 old.widths.0 old.heights.0 count
-    (done.cb ∙ ap (λ (k : ℕ). chroma_filtered edges (old.y.width / 16) (layout_of old.cb) k old.cb.bytes.items) whole))
+    (done.cb ∙ ap (λ (k : ℕ). chroma_filtered edges (old.y.width / 16) (layout_of old.cb) k (buffer old.cb)) whole))
     (chroma_plane pictures0 pictures1 records n old.y.width old.y.height old.cr new.cr done.shapes.2 old.widths.1 old.heights.1 count
-    (done.cr ∙ ap (λ (k : ℕ). chroma_filtered edges (old.y.width / 16) (layout_of old.cr) k old.cr.bytes.items) whole))
+    (done.cr ∙ ap (λ (k : ℕ). chroma_filtered edges (old.y.width / 16) (layout_of old.cr) k (buffer old.cr)) whole))

@@ -2,6 +2,7 @@
 use Rattle.std.specs.Prelude.{◌≡◌, ℕ, ◌+◌, ◌*◌}
 use Rattle.picture_planes.specs.declared.plane.Plane.{Plane}
 use Rattle.picture_planes.specs.declared.picture.Picture.{Picture}
+use Rattle.picture_planes.specs.Samples.{buffer}
 use Rattle.picture_planes.specs.Pictures.{SameShapes}
 use Rattle.spec_filter.specs.declared.Layout.{Layout}
 use Rattle.spec_filter.specs.declared.MbEdges.{MbEdges}
@@ -14,6 +15,6 @@ layout_of p = record { origin = p.pad * (p.width + 2 * p.pad) + p.pad; stride = 
 -- the first n macroblocks of all planes are filtered, of which a row has `width`
 pub record FilteredTo (edges : ℕ → MbEdges) (width n : ℕ) (old new : Picture) : Type 0 where
   pub shapes : SameShapes old new
-  pub luma : new.y.bytes.items ≡ luma_filtered edges width (layout_of old.y) n old.y.bytes.items
-  pub cb : new.cb.bytes.items ≡ chroma_filtered edges width (layout_of old.cb) n old.cb.bytes.items
-  pub cr : new.cr.bytes.items ≡ chroma_filtered edges width (layout_of old.cr) n old.cr.bytes.items
+  pub luma : buffer new.y ≡ luma_filtered edges width (layout_of old.y) n (buffer old.y)
+  pub cb : buffer new.cb ≡ chroma_filtered edges width (layout_of old.cb) n (buffer old.cb)
+  pub cr : buffer new.cr ≡ chroma_filtered edges width (layout_of old.cr) n (buffer old.cr)

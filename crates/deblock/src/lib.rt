@@ -7,6 +7,5 @@ mod macroblocks;
 mod picture;
 mod strengths;
 mod thresholds;
-mod whole;
 
 pub use picture::deblock_picture;

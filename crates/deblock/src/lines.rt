@@ -1,10 +1,10 @@
 // The filter of one line of samples across an edge (ITU-T H.264, clause 8.7.2).
 ghost use Rattle.std.specs.Prelude.{◌≡◌, ℕ, Bool, true, false, not, nat_lt, ◌&&◌, cond, ◌+◌, ◌-◌, ◌*◌, ◌/◌, ◌<◌, ◌≤◌, ℤ, pos, ◌+ℤ◌, ◌-ℤ◌, ◌*ℤ◌, ◌≤ℤ◌};
 ghost use Rattle.std.specs.Int.{abs_diff};
-ghost use Rattle.spec_filter.specs.Lines.{clip3, digit, is_filtered as is_filtered_by, step_at, second as second_of, weak, strong, is_smooth};
+ghost use Rattle.spec_filter.specs.Lines.{limited, one_where, is_filtered as is_filtered_by, step_at, second as second_of, weak, strong, is_smooth};
 
-use crate::whole::Whole;
 use spec_filter::{EdgeRule, SampleLine};
+use whole_numbers::Whole;
 
 #[inline]
 fn is_near(a: u8, b: u8, bound: u8) -> bool
@@ -52,7 +52,7 @@ fn second(t: u8, p2: u8, p1: u8, p0: u8, q0: u8) -> u8
 
 #[inline]
 fn threshold(chroma: bool, tc0: u8, near_p: bool, near_q: bool) -> u16
-    ensures value { result ≡ cond chroma (tc0 + 1) (tc0 + digit near_p + digit near_q) }
+    ensures value { result ≡ cond chroma (tc0 + 1) (tc0 + one_where near_p + one_where near_q) }
     ensures most { result ≤ 257 }
 {
     if chroma {

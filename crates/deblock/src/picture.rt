@@ -1,7 +1,7 @@
 // The filter over whole pictures (ITU-T H.264, clause 8.7).
 ghost use Rattle.std.specs.Prelude.{◌≡◌, ◌≤◌, ◌<◌, ◌+◌, ◌*◌, ◌/◌, ◌%◌, ℕ, length, true};
 ghost use Rattle.std.specs.List.{All};
-ghost use Rattle.picture_planes.specs.Samples.{SameShape};
+ghost use Rattle.picture_planes.specs.Samples.{buffer, SameShape};
 ghost use Rattle.picture_planes.specs.Pictures.{SameShapes, planes_of};
 ghost use Rattle.spec_filter.specs.Macroblocks.{luma_macroblock, chroma_macroblock};
 ghost use Rattle.spec_filter.specs.Pictures.{edges_of as edges_of_macroblock, record_at, picture_filtered};
@@ -34,7 +34,7 @@ fn filter_luma_of(plane: &mut Plane, edges: &MbEdges, x: usize, y: usize)
     requires column { 16 * x + 16 ≤ plane.old.width }
     requires row { 16 * y + 16 ≤ plane.old.height }
     ensures shape { SameShape plane.old plane.new }
-    ensures samples { plane.new.bytes.items ≡ luma_macroblock edges.now (layout_of plane.old) x y plane.old.bytes.items }
+    ensures samples { buffer plane.new ≡ luma_macroblock edges.now (layout_of plane.old) x y (buffer plane.old) }
 {
     let at = layout(plane);
     filter_luma(edges, at, x, y, plane.buffer_mut());
@@ -49,7 +49,7 @@ fn filter_chroma_of(plane: &mut Plane, edges: &MbEdges, x: usize, y: usize)
     requires column { 8 * x + 8 ≤ plane.old.width }
     requires row { 8 * y + 8 ≤ plane.old.height }
     ensures shape { SameShape plane.old plane.new }
-    ensures samples { plane.new.bytes.items ≡ chroma_macroblock edges.now (layout_of plane.old) x y plane.old.bytes.items }
+    ensures samples { buffer plane.new ≡ chroma_macroblock edges.now (layout_of plane.old) x y (buffer plane.old) }
 {
     let at = layout(plane);
     filter_chroma(edges, at, x, y, plane.buffer_mut());
@@ -85,9 +85,9 @@ fn edges_of(
     )
 }
 
-/// Filters the whole picture, across slices: `records` has one record for each macroblock, in the order of their addresses;
-/// `pictures0` and `pictures1` have the number of the picture that each entry of list 0 and of list 1 means, so that two entries are
-/// the same picture exactly where the numbers are equal.
+/// Filters the whole picture, across slices: `records` has one record for each macroblock, in the order of their
+/// addresses; `pictures0` and `pictures1` have the number of the picture that each entry of list 0 and of list 1
+/// means, so that two entries are the same picture exactly where the numbers are equal.
 pub fn deblock_picture(
     picture: &mut Picture,
     records: &[MbRecord],

@@ -1,30 +1,12 @@
 // How strongly the parts of a macroblock's edges are filtered (ITU-T H.264, clause 8.7.2.1).
 ghost use Rattle.std.specs.Prelude.{◌≡◌, ◌<◌, ◌≤◌, ℕ, ◌&&◌, ◌||◌, ◌==◌, ◌+◌, ◌*◌, ◌/◌, ◌%◌, cond, not, true, false, length, slice_index, slice_index_or, slice_range, Bool, nat_lt, Option, Some, None};
-ghost use Rattle.enc_tables.specs.Kinds.{is_pcm as is_pcm_kind, is_intra as is_intra_kind};
-ghost use Rattle.spec_contexts.specs.Near.{block4};
+ghost use Rattle.spec_basics.specs.Blocks.{block_number};
 ghost use Rattle.spec_contexts.specs.Increments.{some_level};
 ghost use Rattle.spec_filter.specs.Strengths.{is_coded as is_coded_at, strength as strength_of, picture_at, is_near as is_near_to, is_like as is_like_to, is_alike as is_alike_to, motion_at};
 ghost use Rattle.spec_filter.specs.Macroblocks.{vertical_strength, horizontal_strength, strengths};
 ghost use Rattle.deblock.specs.Coded.{CodedTo};
 
-use enc_tables::{MbKind, MbRecord, Motion, Vector};
-
-#[inline]
-pub fn is_pcm(kind: MbKind) -> bool
-    ensures { result ≡ is_pcm_kind kind }
-{
-    matches!(kind, MbKind::Pcm)
-}
-
-#[inline]
-pub fn is_intra(kind: MbKind) -> bool
-    ensures { result ≡ is_intra_kind kind }
-{
-    matches!(
-        kind,
-        MbKind::Pcm | MbKind::Intra4 | MbKind::Intra8 | MbKind::Intra16
-    )
-}
+use enc_tables::{MbRecord, Motion, Vector};
 
 #[inline]
 fn has_level(levels: &[i16]) -> bool
@@ -38,7 +20,7 @@ fn has_level(levels: &[i16]) -> bool
 fn block_number(row: usize, column: usize) -> usize
     requires row { row < 4 }
     requires column { column < 4 }
-    ensures value { result ≡ block4 row column }
+    ensures value { result ≡ block_number column row }
     ensures most { result < 16 }
 {
     8 * (row / 2) + 4 * (column / 2) + 2 * (row % 2) + column % 2
@@ -145,7 +127,7 @@ fn strength(pictures0: &[i32], pictures1: &[i32], outer: bool, p: BlockSide, q: 
     requires q_coded { q.coded ≡ is_coded_at q.mb.now q.row q.column }
     ensures { result ≡ strength_of pictures0.now pictures1.now outer p.entry.mb.now p.entry.row p.entry.column q.entry.mb.now q.entry.row q.entry.column }
 {
-    if is_intra(p.mb.kind) || is_intra(q.mb.kind) {
+    if p.mb.kind.is_intra() || q.mb.kind.is_intra() {
         return if outer { 4 } else { 3 };
     }
     if p.coded || q.coded {
@@ -254,7 +236,7 @@ pub fn vertical_strengths(
 ) -> [u8; 16]
     ensures { result ≡ strengths (vertical_strength pictures0.now pictures1.now before.now mb.now) }
 {
-    if is_intra(mb.kind) {
+    if mb.kind.is_intra() {
         return INTRA_STRENGTHS;
     }
     let coded = coded_blocks(mb);
@@ -274,7 +256,7 @@ pub fn horizontal_strengths(
 ) -> [u8; 16]
     ensures { result ≡ strengths (horizontal_strength pictures0.now pictures1.now before.now mb.now) }
 {
-    if is_intra(mb.kind) {
+    if mb.kind.is_intra() {
         return INTRA_STRENGTHS;
     }
     let coded = coded_blocks(mb);

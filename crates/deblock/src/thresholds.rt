@@ -2,7 +2,6 @@
 ghost use Rattle.std.specs.Prelude.{◌≡◌, ◌≤◌};
 ghost use Rattle.spec_filter.specs.Strengths.{rule_at, filter_qp as filter_qp_of, filter_index as filter_index_of};
 
-use crate::strengths::is_pcm;
 use enc_tables::{CHROMA_QP, FILTER_ALPHA, FILTER_BETA, FILTER_TC0, MbRecord};
 use spec_filter::EdgeRule;
 
@@ -36,7 +35,7 @@ fn filter_qp(chroma: bool, mb: &MbRecord) -> u8
     ensures value { result ≡ filter_qp_of chroma mb.now }
     ensures most { result ≤ 51 }
 {
-    let qp = if is_pcm(mb.kind) { 0 } else { mb.qp };
+    let qp = if mb.kind.is_pcm() { 0 } else { mb.qp };
     if chroma { CHROMA_QP[qp as usize] } else { qp }
 }
 

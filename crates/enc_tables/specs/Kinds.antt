@@ -1,5 +1,5 @@
 -- Kinds of macroblocks (ITU-T H.264, tables 7-11, 7-13 and 7-14).
-use Rattle.std.specs.Prelude.{Bool, true, false}
+use Rattle.std.specs.Prelude.{Bool, true, false, not, ◌&&◌}
 use Rattle.enc_tables.specs.declared.records.MbKind.{MbKind}
 use Rattle.enc_tables.specs.declared.records.MbKind.TheVariants as kinds
 
@@ -109,3 +109,7 @@ is_direct kinds.B16 = false
 is_direct kinds.B16x8 = false
 is_direct kinds.B8x16 = false
 is_direct kinds.B8x8 = false
+
+-- 8x8 block k has motion that is written
+abbrev pub has_motion : MbKind → Bool
+has_motion kind = not (is_intra kind) && not (is_skipped kind) && not (is_direct kind)

@@ -3,5 +3,4 @@ pub mod Choice
 pub mod Kinds
 pub mod Plans
 pub mod Records
-pub mod Samples
 pub mod Steps

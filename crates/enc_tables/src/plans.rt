@@ -2,7 +2,7 @@
 ghost use Rattle.std.specs.Prelude.{◌≡◌, ◌≤◌, ℕ, IfOk, replicate};
 ghost use Rattle.enc_tables.specs.Plans.{blank_plan};
 
-use crate::records::{MbPlan, Motion, PartPlan, Vector};
+use crate::records::{MbPlan, Motion, PartPlan};
 use std::alloc::{AllocError as OutOfMemory, Global};
 
 /// The plans of a row of macroblocks.
@@ -30,17 +30,15 @@ impl RowPlan {
 fn blank() -> MbPlan
     ensures { result ≡ blank_plan }
 {
-    let zero = Vector { x: 0, y: 0 };
-    let motion = Motion {
-        refs: [-1, -1],
-        vectors: [zero, zero],
-    };
     MbPlan {
         mode16: 0,
         modes8: [0; 4],
         modes4: [0; 16],
         chroma_mode: 0,
         intra: [0; 3],
-        parts: [PartPlan { motion, cost: 0 }; 9],
+        parts: [PartPlan {
+            motion: Motion::NONE,
+            cost: 0,
+        }; 9],
     }
 }

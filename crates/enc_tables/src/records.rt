@@ -1,4 +1,6 @@
 // What is known of slices and macroblocks.
+ghost use Rattle.std.specs.Prelude.{◌≡◌};
+ghost use Rattle.enc_tables.specs.Records.{blank_record};
 
 /// The type of a slice (ITU-T H.264, table 7-6).
 #[derive(Clone, Copy, Debug, Default, PartialEq, Eq)]
@@ -21,6 +23,11 @@ pub struct Vector {
     pub y: i16,
 }
 
+impl Vector {
+    /// No movement.
+    pub const ZERO: Vector = Vector { x: 0, y: 0 };
+}
+
 /// The motion of a block: for each of the two lists a reference index and a vector.
 #[derive(Clone, Copy, Debug, PartialEq, Eq)]
 pub struct Motion {
@@ -28,6 +35,14 @@ pub struct Motion {
     pub refs: [i8; 2],
     /// The vector for each list.
     pub vectors: [Vector; 2],
+}
+
+impl Motion {
+    /// Neither list is used.
+    pub const NONE: Motion = Motion {
+        refs: [-1, -1],
+        vectors: [Vector::ZERO; 2],
+    };
 }
 
 /// The type of a macroblock (tables 7-11, 7-13 and 7-14).
@@ -96,6 +111,30 @@ pub struct MbRecord {
     pub chroma_dc: [i16; 8],
     /// The AC levels in zigzag order: those of 4x4 block b of Cb at 15b, of Cr at 60 + 15b.
     pub chroma_ac: [i16; 120],
+}
+
+impl MbRecord {
+    /// A macroblock of a kind and a luma quantisation parameter, of which nothing else is said.
+    #[tactic(auto, unfolding(crate::specs::Records::blank_record))]
+    pub fn blank(kind: MbKind, qp: u8) -> MbRecord
+        ensures { result ≡ blank_record kind qp }
+    {
+        MbRecord {
+            kind,
+            transform8: false,
+            modes: [0; 16],
+            chroma_mode: 0,
+            motion: [Motion::NONE; 4],
+            mvd: [Vector::ZERO; 8],
+            luma_cbp: 0,
+            chroma_cbp: 0,
+            qp,
+            luma_dc: [0; 16],
+            luma: [0; 256],
+            chroma_dc: [0; 8],
+            chroma_ac: [0; 120],
+        }
+    }
 }
 
 /// The state of a context of the arithmetic coder (clause 9.3.1.1).

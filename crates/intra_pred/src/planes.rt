@@ -1,15 +1,13 @@
 // Planes through the neighbours.
 ghost use Rattle.std.specs.Prelude.{◌≡◌, ◌⊎◌, ℕ, ℤ, pos, ◌+ℤ◌, ◌-ℤ◌, ◌*ℤ◌, ◌≤ℤ◌, ◌+◌, ◌-◌, ◌*◌, ◌/◌, ◌<◌, ◌≤◌, length, slice_index};
 ghost use Rattle.spec_intra.specs.Slopes.{tilt, slope, plane_at, plane};
-ghost use Rattle.enc_tables.specs.Samples.{clip1};
 ghost use Rattle.spec_intra.specs.Block.{block};
-ghost use Rattle.std.specs.Int.{int_shr};
 
 use crate::blocks::{Predictor, block8, block16};
-use std::marker::Model;
+use whole_numbers::Whole;
 
 #[inline]
-#[tactic(auto, unfolding(spec_intra::specs::Slopes::tilt))]
+#[tactic(auto, unfolding(spec_intra::specs::Slopes::tilt, spec_basics::specs::Sums::sum_below))]
 fn tilt_of(samples: &[u8], h: usize) -> i32
     requires sized { length samples.now ≡ 2 * h + 1 }
     requires small { h ≤ 8 }
@@ -39,64 +37,30 @@ fn slope_of(weight: i32, samples: &[u8], h: usize) -> i32
     (weight * tilt_of(samples, h) + 32) >> 6
 }
 
-// A whole number as contracts see it, with no width.
-#[derive(Clone, Copy)]
-pub struct Whole {
-    value: i32,
+// The slope times the distance from the middle.
+#[inline]
+fn rise(slope: Whole, x: usize, h: usize) -> Whole
+    requires small { h ≤ 8 }
+    requires inside { x < 2 * h }
+    requires low { (pos 0 -ℤ pos 10000) ≤ℤ slope }
+    requires high { slope ≤ℤ pos 10000 }
+    ensures value { result ≡ slope *ℤ (pos (x + 1) -ℤ pos h) }
+    ensures low { (pos 0 -ℤ pos 80000) ≤ℤ (slope *ℤ (pos (x + 1) -ℤ pos h)) }
+    ensures high { (slope *ℤ (pos (x + 1) -ℤ pos h)) ≤ℤ pos 80000 }
+{
+    Whole::new(slope.get() * ((x + 1) as i32 - h as i32))
 }
 
-impl Model for Whole {
-    ghost Value = { ℤ };
-
-    ghost view = { λ c. c.value };
-
-    ghost inverse = { λ z. record { value = z } };
-}
-
-impl Whole {
-    #[inline]
-    fn new(value: i32) -> Whole
-        ensures { result ≡ value }
-    {
-        Whole { value }
-    }
-
-    // The slope times the distance from the middle.
-    #[inline]
-    fn rise(self, x: usize, h: usize) -> Whole
-        requires small { h ≤ 8 }
-        requires inside { x < 2 * h }
-        requires low { (pos 0 -ℤ pos 10000) ≤ℤ self }
-        requires high { self ≤ℤ pos 10000 }
-        ensures value { result ≡ self *ℤ (pos (x + 1) -ℤ pos h) }
-        ensures low { (pos 0 -ℤ pos 80000) ≤ℤ (self *ℤ (pos (x + 1) -ℤ pos h)) }
-        ensures high { (self *ℤ (pos (x + 1) -ℤ pos h)) ≤ℤ pos 80000 }
-    {
-        Whole {
-            value: self.value * ((x + 1) as i32 - h as i32),
-        }
-    }
-
-    #[inline]
-    fn height(ends: u32, across: Whole, down: Whole) -> Whole
-        requires few { ends ≤ 510 }
-        requires a_low { (pos 0 -ℤ pos 80000) ≤ℤ across }
-        requires a_high { across ≤ℤ pos 80000 }
-        requires d_low { (pos 0 -ℤ pos 80000) ≤ℤ down }
-        requires d_high { down ≤ℤ pos 80000 }
-        ensures value { result ≡ pos (16 * ends) +ℤ across +ℤ down +ℤ pos 16 }
-    {
-        Whole {
-            value: (16 * ends) as i32 + across.value + down.value + 16,
-        }
-    }
-
-    #[inline]
-    fn sample(self) -> u8
-        ensures { result ≡ clip1 (int_shr self 5) }
-    {
-        (self.value >> 5).clamp(0, 255) as u8
-    }
+#[inline]
+fn height(ends: u32, across: Whole, down: Whole) -> Whole
+    requires few { ends ≤ 510 }
+    requires a_low { (pos 0 -ℤ pos 80000) ≤ℤ across }
+    requires a_high { across ≤ℤ pos 80000 }
+    requires d_low { (pos 0 -ℤ pos 80000) ≤ℤ down }
+    requires d_high { down ≤ℤ pos 80000 }
+    ensures value { result ≡ pos (16 * ends) +ℤ across +ℤ down +ℤ pos 16 }
+{
+    Whole::new((16 * ends) as i32 + across.get() + down.get() + 16)
 }
 
 #[derive(Clone, Copy)]
@@ -122,7 +86,7 @@ impl Predictor for Plane {
 
     #[tactic(auto, unfolding(spec_intra::specs::Slopes::plane_at))]
     fn sample(&self, x: usize, y: usize) -> u8 {
-        Whole::height(self.ends, self.b.rise(x, self.h), self.c.rise(y, self.h)).sample()
+        height(self.ends, rise(self.b, x, self.h), rise(self.c, y, self.h)).sample()
     }
 }
 

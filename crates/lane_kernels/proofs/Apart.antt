@@ -9,7 +9,7 @@ use Rattle.std.proofs.Math.IntN.{nat_abs}
 use lib.Lanes.{zip2, sel_l, top, fold_l, sum_l, Each1}
 use Rattle.std.proofs.lemmas.Simd.{Each1-from_get_or}
 use lib.Signed.{lt_z, non_neg}
-use Rattle.spec_kernels.specs.Sums.{sad}
+use Rattle.spec_basics.specs.Sums.{sad}
 
 abbrev pub wsub : ℕ → ℕ → ℕ
 wsub a b = (a + (2 ^ 32 - b)) % 2 ^ 32

@@ -3,10 +3,11 @@ use Rattle.std.proofs.Common.{◌≡◌, ℕ, zero, suc, ◌+◌, ◌-◌, ◌*�
 use Rattle.std.proofs.lemmas.Grind.{common_steps}
 use Rattle.std.proofs.lemmas.List.{length-take-le, take_more}
 use Rattle.std.specs.Int.{abs_diff}
-use Rattle.spec_kernels.specs.Sums.{sad, sum_below, block_difference, strided}
+use Rattle.spec_basics.specs.Sums.{sad, sum_below}
+use Rattle.spec_kernels.specs.Sums.{block_difference, strided}
 use Rattle.spec_kernels.proofs.SumLaws.{sum-zero, sum-more, sum-same, block-rows, block-none}
 use Rattle.lane_kernels.proofs.Apart.{AtMost}
-use Rattle.lane_kernels.proofs.Chunks.{sad_cons, sad_append}
+use Rattle.spec_basics.proofs.SadLaws.{sad_cons, sad_append}
 
 pub weaker : (b c : ℕ) (xs : List ℕ) → b ≤ c → AtMost b xs → AtMost c xs
 weaker b c [] p h = tt

@@ -1,42 +1,16 @@
 -- Differences of rows, a part at a time.
-use Rattle.std.proofs.Common.{◌≡◌, ℕ, zero, suc, ◌+◌, ◌*◌, ◌<◌, ◌≤◌, List, [], ◌∷◌, ◌++◌, length, get_or, take, drop, ap, ◌∙◌, arith, w8, Fits}
-use Rattle.std.proofs.lemmas.List.{length-take, length-take-le, take_more, drop-drop}
+use Rattle.std.proofs.Common.{◌≡◌, ℕ, zero, suc, ◌+◌, ◌*◌, ◌<◌, ◌≤◌, List, [], ◌∷◌, length, get_or, take, drop, ap, ◌∙◌, arith, w8, Fits}
+use Rattle.std.proofs.lemmas.List.{length-take-le, take_more, drop-drop}
 use Rattle.std.proofs.Math.Seq.{take-add}
 use Rattle.std.proofs.lemmas.List.Sums.{sum_by-cons}
 use Rattle.std.proofs.lemmas.Simd.{Each1-from_get_or}
 use Rattle.std.specs.Prelude.{sum}
-use Rattle.std.specs.Int.{abs_diff}
 use Rattle.std.specs.Simd.{first_chunks}
 use lib.Lanes.{zip2, Each1}
-use Rattle.spec_kernels.specs.Sums.{sad}
+use Rattle.spec_basics.specs.Sums.{sad}
 use Rattle.std.proofs.lemmas.List.Sums.{sum_by-append}
+use Rattle.spec_basics.proofs.SadLaws.{sad_more}
 use Rattle.lane_kernels.proofs.Apart.{diff_small}
-
-pub sad_cons : (x y : ℕ) (xs ys : List ℕ) → sad (x ∷ xs) (y ∷ ys) ≡ abs_diff x y + sad xs ys
-sad_cons x y xs ys = sum_by-cons (λ (v : ℕ). v) (abs_diff x y) (zip2 abs_diff xs ys)
-
-pub sad_append : (us vs ps qs : List ℕ) → length us ≡ length vs → sad (us ++ ps) (vs ++ qs) ≡ sad us vs + sad ps qs
-sad_append [] [] ps qs p = omega arith
-sad_append [] (v ∷ vs) ps qs p = absurd (omega arith)
-sad_append (u ∷ us) [] ps qs p = absurd (omega arith)
-sad_append (u ∷ us) (v ∷ vs) ps qs p =
-    let a = sad_cons u v (us ++ ps) (vs ++ qs) in
-    let b = sad_cons u v us vs in
-    let h = sad_append us vs ps qs (omega arith) in
-    omega arith
-
-pub sad_more : (i n : ℕ) (xs ys : List ℕ) → length xs ≡ length ys → sad (take (i + n) xs) (take (i + n) ys) ≡ sad (take i xs) (take i ys) + sad (take n (drop i xs)) (take n (drop i ys))
-sad_more i n xs ys p =
-    let e : length (take i xs) ≡ length (take i ys) = omega (arith, length-take i xs, length-take i ys) in
-    rw (take-add i n xs, take-add i n ys) (sad_append (take i xs) (take i ys) (take n (drop i xs)) (take n (drop i ys)) e)
-
-pub sad_one : (i : ℕ) (xs ys : List ℕ) → length xs ≡ length ys → i < length xs → sad (take (i + 1) xs) (take (i + 1) ys) ≡ sad (take i xs) (take i ys) + abs_diff (get_or xs i 0) (get_or ys i 0)
-sad_one i xs ys p q =
-    let r : i < length ys = omega arith in
-    let e : length (take i xs) ≡ length (take i ys) = omega (arith, length-take i xs, length-take i ys) in
-    let s = sad_cons (get_or xs i 0) (get_or ys i 0) [] [] in
-    let t = sad_append (take i xs) (take i ys) (get_or xs i 0 ∷ []) (get_or ys i 0 ∷ []) e in
-    rw (take_more xs i 0 q, take_more ys i 0 r) (omega arith)
 
 pub chunk_at : {X : Type 0} (n k c : ℕ) (xs : List X) (d : List X) → k < c → get_or (first_chunks n c xs) k d ≡ take n (drop (n * k) xs)
 chunk_at n k zero xs d p = absurd (omega arith)

@@ -1,6 +1,7 @@
 // Differences of blocks, a row at a time, with one accumulator for each column.
 ghost use Rattle.std.specs.Prelude.{◌≡◌, ◌≤◌, ◌+◌, ◌-◌, ◌*◌, ℕ, length, take};
-ghost use Rattle.spec_kernels.specs.Sums.{sad, block_difference, strided};
+ghost use Rattle.spec_basics.specs.Sums.{sad};
+ghost use Rattle.spec_kernels.specs.Sums.{block_difference, strided};
 ghost use Rattle.lane_kernels.specs.Lanes.{lane_sum, AllAtMost};
 
 use std::simd::prelude::*;

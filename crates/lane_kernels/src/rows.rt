@@ -1,6 +1,6 @@
 // Sums over rows, sixteen samples at a time and then one at a time.
 ghost use Rattle.std.specs.Prelude.{◌≡◌, ◌≤◌, ◌+◌, ◌*◌, length, sum};
-ghost use Rattle.spec_kernels.specs.Sums.{sad};
+ghost use Rattle.spec_basics.specs.Sums.{sad};
 
 use std::simd::prelude::*;
 

@@ -5,19 +5,20 @@ ghost use Rattle.arrayvec.specs.ArrayVec.{array_vec_len};
 ghost use Rattle.enc_tables.specs.declared.records.SliceKind.{SliceKind};
 ghost use Rattle.spec_syntax.specs.Syntax.{at, flag_string};
 ghost use Rattle.spec_syntax.specs.Numbers.{prefix_string, golomb_string};
-ghost use Rattle.spec_syntax.specs.Inter.{skip_at, has_inter, is_used, first_used, second_used, use_of, block_use, sub_string, sub_type_string, sub_type_p, ref_index_string, mvd_from, mvd_at, mvd_string, sign_string};
+ghost use Rattle.spec_syntax.specs.Inter.{skip_at, has_inter, first_used, second_used, use_of, block_use, sub_string, sub_type_string, sub_type_p, ref_index_string, mvd_from, mvd_at, mvd_string, sign_string};
+ghost use Rattle.enc_tables.specs.Records.{is_used};
 
 use crate::push::{BYPASS, one, push_golomb3, push_ones};
 use arrayvec::ArrayVec;
-use enc_tables::{MbRecord, Motion, SliceKind};
+use enc_tables::{MbRecord, Motion, REF_IDX_OFFSET, SKIP_B_OFFSET, SKIP_P_OFFSET, SliceKind};
 use spec_syntax::{Bin, ListUse};
 
 fn skip_context(kind: SliceKind, inc: u8) -> u16
     ensures { result ≡ skip_at kind inc }
 {
     match kind {
-        SliceKind::B => 24 + inc as u16,
-        _ => 11 + inc as u16,
+        SliceKind::B => SKIP_B_OFFSET + inc as u16,
+        _ => SKIP_P_OFFSET + inc as u16,
     }
 }
 
@@ -118,9 +119,9 @@ pub fn bins_ref(inc: u8, index: u8) -> ArrayVec<Bin, 48>
     ensures { result.items ≡ ref_index_string inc index }
 {
     if index == 0 {
-        return one(54 + inc as u16, false);
+        return one(REF_IDX_OFFSET + inc as u16, false);
     }
-    let mut bins = one(54 + inc as u16, true);
+    let mut bins = one(REF_IDX_OFFSET + inc as u16, true);
     bins.push(Bin {
         ctx: 58,
         bit: index > 1,

@@ -7,14 +7,12 @@ ghost use Rattle.spec_syntax.specs.Levels.{coded_at, significant_at, last_at, fi
 
 use crate::push::{BYPASS, one, push_golomb, push_ones};
 use arrayvec::ArrayVec;
-use spec_syntax::{Bin, LAST8, SIGNIFICANT8};
-
-/// Where the contexts of a category begin among those of its element (table 9-40).
-const CODED_FROM: [u16; 5] = [0, 4, 8, 12, 16];
-
-const FLAGS_FROM: [u16; 5] = [0, 15, 29, 44, 47];
-
-const LEVELS_FROM: [u16; 5] = [0, 10, 20, 30, 39];
+use enc_tables::{
+    CODED_BY_CATEGORY, CODED_OFFSET, FLAGS_BY_CATEGORY, LAST_OFFSET, LAST8, LAST8_OFFSET,
+    LEVEL_OFFSET, LEVEL8_OFFSET, LEVELS_BY_CATEGORY, SIGNIFICANT_OFFSET, SIGNIFICANT8,
+    SIGNIFICANT8_OFFSET,
+};
+use spec_syntax::Bin;
 
 /// The context of coded_block_flag.
 #[tactic(auto, unfolding(spec_syntax::specs::Levels::coded_at))]
@@ -22,7 +20,7 @@ pub fn coded_context(category: u8, inc: u8) -> u16
     requires { category ≤ 4 }
     ensures { result ≡ coded_at category inc }
 {
-    85 + CODED_FROM[category as usize] + inc as u16
+    CODED_OFFSET + CODED_BY_CATEGORY[category as usize] + inc as u16
 }
 
 /// coded_block_flag, whether a block has a level that isn't 0.
@@ -41,9 +39,9 @@ pub fn significant_context(category: u8, place: u8) -> u16
     ensures { result ≡ significant_at category place }
 {
     match category {
-        5 => 402 + SIGNIFICANT8[place as usize] as u16,
-        3 => 105 + FLAGS_FROM[3] + place.min(2) as u16,
-        _ => 105 + FLAGS_FROM[category as usize] + place as u16,
+        5 => SIGNIFICANT8_OFFSET + SIGNIFICANT8[place as usize] as u16,
+        3 => SIGNIFICANT_OFFSET + FLAGS_BY_CATEGORY[3] + place.min(2) as u16,
+        _ => SIGNIFICANT_OFFSET + FLAGS_BY_CATEGORY[category as usize] + place as u16,
     }
 }
 
@@ -64,9 +62,9 @@ pub fn last_context(category: u8, place: u8) -> u16
     ensures { result ≡ last_at category place }
 {
     match category {
-        5 => 417 + LAST8[place as usize] as u16,
-        3 => 166 + FLAGS_FROM[3] + place.min(2) as u16,
-        _ => 166 + FLAGS_FROM[category as usize] + place as u16,
+        5 => LAST8_OFFSET + LAST8[place as usize] as u16,
+        3 => LAST_OFFSET + FLAGS_BY_CATEGORY[3] + place.min(2) as u16,
+        _ => LAST_OFFSET + FLAGS_BY_CATEGORY[category as usize] + place as u16,
     }
 }
 
@@ -86,8 +84,8 @@ fn levels_context(category: u8) -> u16
     ensures most { result ≤ 426 }
 {
     match category {
-        5 => 426,
-        _ => 227 + LEVELS_FROM[category as usize],
+        5 => LEVEL8_OFFSET,
+        _ => LEVEL_OFFSET + LEVELS_BY_CATEGORY[category as usize],
     }
 }
 

@@ -4,12 +4,16 @@ ghost use Rattle.std.specs.Prelude.{◌≡◌, ℕ, ◌+◌, ◌-◌, ◌*◌, �
 ghost use Rattle.arrayvec.specs.ArrayVec.{array_vec_len};
 ghost use Rattle.spec_syntax.specs.Syntax.{flag_string};
 ghost use Rattle.spec_syntax.specs.Inter.{occurs_in, type_string};
-ghost use Rattle.spec_syntax.specs.Elements.{IntraType, IsIntraType, is_intra, intra_type_of, intra_type_string, mode_flag, mode_rem_string, chroma_mode_string, luma_pattern_string, inc_of, chroma_pattern_string, transform_flag, mapped, qp_delta_string, end_of_slice};
+ghost use Rattle.spec_syntax.specs.Elements.{IntraType, IsIntraType, intra_type_of, intra_type_string, mode_flag, mode_rem_string, chroma_mode_string, luma_pattern_string, inc_of, chroma_pattern_string, transform_flag, mapped, qp_delta_string, end_of_slice};
+ghost use Rattle.enc_tables.specs.Kinds.{is_intra};
 
-use crate::push::{TERMINATE, one, push_ones};
+use crate::push::{one, push_ones};
 use crate::types::{type_in_b, type_in_p};
 use arrayvec::ArrayVec;
-use enc_tables::{MbKind, MbRecord, SliceKind};
+use enc_tables::{
+    CHROMA_MODE_OFFSET, CHROMA_PATTERN_OFFSET, LUMA_PATTERN_OFFSET, MB_TYPE_I_OFFSET,
+    MODE_REM_OFFSET, MbKind, MbRecord, QP_DELTA_OFFSET, SliceKind, TERMINATE, TRANSFORM_OFFSET,
+};
 use spec_syntax::Bin;
 
 /// end_of_slice_flag.
@@ -51,14 +55,14 @@ fn type_in_i(inc: u8, mb: &MbRecord) -> ArrayVec<Bin, 48>
 fn not_whole(inc: u8) -> ArrayVec<Bin, 48>
     ensures { result.items ≡ intra_type_string inc IntraType.NxN }
 {
-    one(3 + inc as u16, false)
+    one(MB_TYPE_I_OFFSET + inc as u16, false)
 }
 
 #[tactic(auto, unfolding(spec_syntax::specs::Elements::intra_type_string, spec_syntax::specs::Syntax::flag_string))]
 fn pcm(inc: u8) -> ArrayVec<Bin, 48>
     ensures { result.items ≡ intra_type_string inc IntraType.Pcm }
 {
-    let mut bins = one(3 + inc as u16, true);
+    let mut bins = one(MB_TYPE_I_OFFSET + inc as u16, true);
     bins.push(Bin {
         ctx: TERMINATE,
         bit: true,
@@ -75,7 +79,7 @@ fn whole(inc: u8, mode: u8, chroma: u8, ac: bool) -> ArrayVec<Bin, 48>
 {
     let high = mode / 2 == 1;
     let low = mode % 2 == 1;
-    let mut bins = one(3 + inc as u16, true);
+    let mut bins = one(MB_TYPE_I_OFFSET + inc as u16, true);
     bins.push(Bin {
         ctx: TERMINATE,
         bit: false,
@@ -101,7 +105,7 @@ pub fn bins_chroma_mode(inc: u8, mode: u8) -> ArrayVec<Bin, 48>
     requires { mode ≤ 3 }
     ensures { result.items ≡ chroma_mode_string inc mode }
 {
-    let mut bins = one(64 + inc as u16, mode > 0);
+    let mut bins = one(CHROMA_MODE_OFFSET + inc as u16, mode > 0);
     if mode > 0 {
         push_ones(&mut bins, 67, 2, mode as u16 - 1);
     }
@@ -122,13 +126,13 @@ pub fn bins_mode_rem(rem: u8) -> ArrayVec<Bin, 48>
     ensures { result.items ≡ mode_rem_string rem }
 {
     let upper = rem / 2;
-    let mut bins = one(69, rem % 2 == 1);
+    let mut bins = one(MODE_REM_OFFSET, rem % 2 == 1);
     bins.push(Bin {
-        ctx: 69,
+        ctx: MODE_REM_OFFSET,
         bit: upper % 2 == 1,
     });
     bins.push(Bin {
-        ctx: 69,
+        ctx: MODE_REM_OFFSET,
         bit: upper / 2 % 2 == 1,
     });
     bins
@@ -142,17 +146,17 @@ pub fn bins_luma_cbp(incs: [u8; 4], cbp: u8) -> ArrayVec<Bin, 48>
 {
     let half = cbp / 2;
     let quarter = half / 2;
-    let mut bins = one(73 + incs[0] as u16, cbp % 2 == 1);
+    let mut bins = one(LUMA_PATTERN_OFFSET + incs[0] as u16, cbp % 2 == 1);
     bins.push(Bin {
-        ctx: 73 + incs[1] as u16,
+        ctx: LUMA_PATTERN_OFFSET + incs[1] as u16,
         bit: half % 2 == 1,
     });
     bins.push(Bin {
-        ctx: 73 + incs[2] as u16,
+        ctx: LUMA_PATTERN_OFFSET + incs[2] as u16,
         bit: quarter % 2 == 1,
     });
     bins.push(Bin {
-        ctx: 73 + incs[3] as u16,
+        ctx: LUMA_PATTERN_OFFSET + incs[3] as u16,
         bit: quarter / 2 % 2 == 1,
     });
     bins
@@ -165,10 +169,10 @@ pub fn bins_chroma_cbp(incs: [u8; 2], cbp: u8) -> ArrayVec<Bin, 48>
     requires { cbp ≤ 2 }
     ensures { result.items ≡ chroma_pattern_string (get_or incs 0 0) (get_or incs 1 0) cbp }
 {
-    let mut bins = one(77 + incs[0] as u16, cbp > 0);
+    let mut bins = one(CHROMA_PATTERN_OFFSET + incs[0] as u16, cbp > 0);
     if cbp > 0 {
         bins.push(Bin {
-            ctx: 81 + incs[1] as u16,
+            ctx: CHROMA_PATTERN_OFFSET + 4 + incs[1] as u16,
             bit: cbp > 1,
         });
     }
@@ -179,7 +183,7 @@ pub fn bins_chroma_cbp(incs: [u8; 2], cbp: u8) -> ArrayVec<Bin, 48>
 pub fn bins_transform(inc: u8, flag: bool) -> ArrayVec<Bin, 48>
     ensures { result.items ≡ flag_string (transform_flag inc) flag }
 {
-    one(399 + inc as u16, flag)
+    one(TRANSFORM_OFFSET + inc as u16, flag)
 }
 
 // A difference as a number from 0 on: the positive ones odd, the others even (clause 9.1.1).
@@ -200,9 +204,9 @@ pub fn bins_qp_delta(inc: u8, delta: i8) -> ArrayVec<Bin, 48>
 {
     let value = mapped_delta(delta);
     if value == 0 {
-        return one(60 + inc as u16, false);
+        return one(QP_DELTA_OFFSET + inc as u16, false);
     }
-    let mut bins = one(60 + inc as u16, true);
+    let mut bins = one(QP_DELTA_OFFSET + inc as u16, true);
     bins.push(Bin {
         ctx: 62,
         bit: value > 1,

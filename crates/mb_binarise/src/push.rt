@@ -11,9 +11,6 @@ use spec_syntax::Bin;
 /// The context number of bins that are coded by bypass.
 pub(crate) const BYPASS: u16 = 1000;
 
-/// The context number of bins before termination.
-pub(crate) const TERMINATE: u16 = 276;
-
 /// A single bin.
 #[tactic(auto, unfolding(spec_syntax::specs::Syntax::flag_string))]
 pub(crate) fn one(ctx: u16, bit: bool) -> ArrayVec<Bin, 48>

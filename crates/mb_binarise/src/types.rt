@@ -5,13 +5,14 @@ ghost use Rattle.arrayvec.specs.ArrayVec.{array_vec_len};
 ghost use Rattle.enc_tables.specs.declared.records.SliceKind.{SliceKind};
 ghost use Rattle.spec_syntax.specs.Syntax.{at};
 ghost use Rattle.spec_syntax.specs.Numbers.{ones_string};
-ghost use Rattle.spec_syntax.specs.Elements.{IntraType, IsIntraType, is_intra, intra_type_of};
+ghost use Rattle.spec_syntax.specs.Elements.{IntraType, IsIntraType, intra_type_of};
+ghost use Rattle.enc_tables.specs.Kinds.{is_intra};
 ghost use Rattle.spec_syntax.specs.Inter.{occurs_in, suffix_string, PType, p_type_of, p_type_string, BType, b_type_of, b_type_string};
 
 use crate::inter::block_use;
-use crate::push::{TERMINATE, one, push_ones};
+use crate::push::{one, push_ones};
 use arrayvec::ArrayVec;
-use enc_tables::{MbKind, MbRecord};
+use enc_tables::{MB_TYPE_B_OFFSET, MB_TYPE_P_OFFSET, MbKind, MbRecord, TERMINATE};
 use spec_syntax::{Bin, ListUse};
 
 // ---- an intra type behind the prefix, whose contexts begin at `from`
@@ -110,11 +111,11 @@ fn three(second: bool, third: bool) -> ArrayVec<Bin, 48>
     let last: u16 = if second { 17 } else { 16 };
     let mut bins = ArrayVec::new();
     bins.push(Bin {
-        ctx: 14,
+        ctx: MB_TYPE_P_OFFSET,
         bit: false,
     });
     bins.push(Bin {
-        ctx: 15,
+        ctx: MB_TYPE_P_OFFSET + 1,
         bit: second,
     });
     bins.push(Bin {
@@ -131,7 +132,10 @@ fn intra_in_p(mb: &MbRecord) -> ArrayVec<Bin, 48>
     ensures { result.items ≡ p_type_string (PType.Intra (intra_type_of mb.now)) }
 {
     let mut bins = ArrayVec::new();
-    bins.push(Bin { ctx: 14, bit: true });
+    bins.push(Bin {
+        ctx: MB_TYPE_P_OFFSET,
+        bit: true,
+    });
     push_suffix(&mut bins, 17, mb);
     bins
 }
@@ -161,7 +165,7 @@ fn six(inc: u8, third: bool, fourth: bool, fifth: bool, sixth: bool) -> ArrayVec
 {
     let mut bins = ArrayVec::new();
     bins.push(Bin {
-        ctx: 27 + inc as u16,
+        ctx: MB_TYPE_B_OFFSET + inc as u16,
         bit: true,
     });
     bins.push(Bin { ctx: 30, bit: true });
@@ -202,7 +206,7 @@ fn short(inc: u8, last: bool) -> ArrayVec<Bin, 48>
 {
     let mut bins = ArrayVec::new();
     bins.push(Bin {
-        ctx: 27 + inc as u16,
+        ctx: MB_TYPE_B_OFFSET + inc as u16,
         bit: true,
     });
     bins.push(Bin {
@@ -217,7 +221,7 @@ fn short(inc: u8, last: bool) -> ArrayVec<Bin, 48>
 fn direct(inc: u8) -> ArrayVec<Bin, 48>
     ensures { result.items ≡ b_type_string inc BType.Direct }
 {
-    one(27 + inc as u16, false)
+    one(MB_TYPE_B_OFFSET + inc as u16, false)
 }
 
 #[tactic(auto, unfolding(spec_syntax::specs::Inter::b_type_string))]

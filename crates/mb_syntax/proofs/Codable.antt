@@ -8,7 +8,8 @@ use Rattle.spec_syntax.specs.Syntax.{at}
 use Rattle.spec_syntax.specs.Elements.{IntraType, type_at, type_bits, intra_type_string, mode_rem_string, chroma_mode_at, chroma_mode_string, luma_pattern_string, inc_of, chroma_pattern_at, chroma_pattern_string, delta_at, mapped, qp_delta_string, string}
 use Rattle.spec_syntax.specs.Numbers.{low_first, truncated, unary}
 use Rattle.spec_syntax.specs.Inter.{suffix_at, PType, p_at, p_bits, p_type_string, BType, b_at, b_bits, b_type_string, type_string}
-use Rattle.spec_slice.specs.Decoding.{is_terminate, GoesOn}
+use Rattle.spec_slice_data.specs.Decoding.{is_terminate}
+use Rattle.spec_slice_data.specs.Coding.{GoesOn}
 use Rattle.spec_partitions.specs.Near.{Near}
 use Rattle.spec_macroblock.specs.Records.{IsRecord}
 use Rattle.spec_macroblock.specs.Strings.{inc_type}

@@ -7,8 +7,9 @@ use Rattle.enc_tables.specs.declared.records.MbKind.{MbKind}
 use Rattle.enc_tables.specs.declared.records.Motion.{Motion}
 use Rattle.enc_tables.specs.declared.records.SliceKind.{SliceKind}
 use Rattle.spec_syntax.specs.declared.ListUse.{ListUse}
-use Rattle.enc_tables.specs.Records.{no_motion}
-use Rattle.spec_contexts.specs.Increments.{has_motion, is_used, ref_of, mvd_of, inc_ref, inc_mvd}
+use Rattle.enc_tables.specs.Records.{no_motion, is_used}
+use Rattle.enc_tables.specs.Kinds.{has_motion}
+use Rattle.spec_contexts.specs.Increments.{ref_of, mvd_of, inc_ref, inc_mvd}
 use Rattle.spec_syntax.specs.declared.Bin.{Bin}
 use Rattle.spec_syntax.specs.Syntax.{at, flag_string}
 use Rattle.spec_syntax.specs.Numbers.{unary, prefix_string, golomb_string, number_string}

@@ -17,22 +17,14 @@ use crate::Around;
 use crate::parts::write_partitions;
 use bin_writer::{code_bin, code_bins};
 use cabac_coder::Coder;
-use cabac_contexts::{
-    Contexts, inc_chroma_mode, inc_skip, inc_transform, inc_type_b, inc_type_i, is_intra, is_nxn,
-};
-use enc_tables::{MbKind, MbRecord, SliceKind};
+use cabac_contexts::{Contexts, inc_chroma_mode, inc_skip, inc_transform, inc_type_b, inc_type_i};
+use enc_tables::{MbRecord, SliceKind, TRANSFORM_OFFSET};
 use mb_binarise::{bins_chroma_mode, bins_skip, bins_type};
 
 fn has_inter(kind: SliceKind) -> bool
     ensures { result ≡ has_inter_of kind }
 {
     !matches!(kind, SliceKind::I)
-}
-
-fn is_skipped(kind: MbKind) -> bool
-    ensures { result ≡ skipped kind }
-{
-    matches!(kind, MbKind::PSkip | MbKind::BSkip)
 }
 
 // mb_skip_flag, which I slices don't have.
@@ -44,7 +36,7 @@ fn write_skip(coder: &mut Coder, contexts: &mut Contexts, mb: &MbRecord, around:
         return;
     }
     let inc = inc_skip(around.left, around.above);
-    let bins = bins_skip(around.kind, inc, is_skipped(mb.kind));
+    let bins = bins_skip(around.kind, inc, mb.kind.is_skipped());
     code_bins(coder, contexts, bins.as_slice());
 }
 
@@ -77,7 +69,7 @@ pub fn write_head(coder: &mut Coder, contexts: &mut Contexts, mb: &MbRecord, aro
     ensures { Codes (seen coder.old contexts.old) (head_string (near_of around.now mb.now) mb.now) (seen coder.new contexts.new) }
 {
     write_skip(coder, contexts, mb, around);
-    if is_skipped(mb.kind) {
+    if mb.kind.is_skipped() {
         return;
     }
     write_type(coder, contexts, mb, around);
@@ -87,7 +79,7 @@ pub fn write_head(coder: &mut Coder, contexts: &mut Contexts, mb: &MbRecord, aro
 fn has_transform(mb: &MbRecord, around: &Around) -> bool
     ensures { result ≡ (around.now.t8x8 && nxn mb.now.kind) }
 {
-    around.t8x8 && is_nxn(mb.kind)
+    around.t8x8 && mb.kind.is_nxn()
 }
 
 /// transform_size_8x8_flag of I_NxN.
@@ -97,14 +89,19 @@ pub fn write_transform(coder: &mut Coder, contexts: &mut Contexts, mb: &MbRecord
 {
     if has_transform(mb, around) {
         let inc = inc_transform(around.left, around.above);
-        code_bin(coder, contexts, 399 + inc as u16, mb.transform8);
+        code_bin(
+            coder,
+            contexts,
+            TRANSFORM_OFFSET + inc as u16,
+            mb.transform8,
+        );
     }
 }
 
 fn can_have_8x8(mb: &MbRecord) -> bool
     ensures { result ≡ can_have_8x8_of mb.now }
 {
-    !is_intra(mb.kind) && mb.luma_cbp != 0
+    !mb.kind.is_intra() && mb.luma_cbp != 0
 }
 
 fn has_inter_transform(mb: &MbRecord, around: &Around) -> bool
@@ -125,7 +122,12 @@ pub fn write_inter_transform(
 {
     if has_inter_transform(mb, around) {
         let inc = inc_transform(around.left, around.above);
-        code_bin(coder, contexts, 399 + inc as u16, mb.transform8);
+        code_bin(
+            coder,
+            contexts,
+            TRANSFORM_OFFSET + inc as u16,
+            mb.transform8,
+        );
     }
 }
 
@@ -135,7 +137,7 @@ pub fn write_chroma_mode(coder: &mut Coder, contexts: &mut Contexts, mb: &MbReco
     requires record_ { IsRecord (near_of around.now mb.now) mb.now }
     ensures { Codes (seen coder.old contexts.old) (intra_chroma_string (near_of around.now mb.now) mb.now) (seen coder.new contexts.new) }
 {
-    if !is_intra(mb.kind) {
+    if !mb.kind.is_intra() {
         return;
     }
     let inc = inc_chroma_mode(around.left, around.above);

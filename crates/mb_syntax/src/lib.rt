@@ -1,11 +1,11 @@
-//! Macroblocks, written as the macroblock layer of ITU-T H.264 (clause 7.3.5) has them, in arithmetic code: those of I, P and B
-//! slices, I_PCM left out.
+//! Macroblocks, written as the macroblock layer of ITU-T H.264 (clause 7.3.5) has them, in arithmetic code: those of
+//! I, P and B slices, I_PCM left out.
 #![tactic(auto)]
 
 ghost use Rattle.std.specs.Prelude.{◌≡◌, false};
 ghost use Rattle.spec_contexts.specs.States.{AllKnown};
 ghost use Rattle.spec_syntax.specs.Syntax.{Reads};
-ghost use Rattle.spec_slice.specs.Decoding.{GoesOn};
+ghost use Rattle.spec_slice_data.specs.Coding.{GoesOn};
 ghost use Rattle.spec_macroblock.specs.Macroblock.{macroblock};
 ghost use Rattle.spec_macroblock.specs.Strings.{macroblock_string};
 ghost use Rattle.spec_partitions.specs.Near.{View};
@@ -28,7 +28,7 @@ use enc_tables::{MbRecord, SliceKind};
 use heads::{write_chroma_mode, write_head, write_inter_transform, write_transform};
 use levels::{write_chroma_ac, write_chroma_dc, write_luma, write_luma_dc};
 use modes::write_modes;
-pub use parts::{first_block, has_motion, part_count, shape_of, uses_list};
+pub use parts::{first_block, part_count, shape_of, uses_list};
 use patterns::{write_chroma_pattern, write_luma_pattern, write_qp};
 
 /// What is known around a macroblock before it is written.
@@ -50,8 +50,9 @@ pub struct Around<'a> {
     pub t8x8: bool,
 }
 
-/// Codes a macroblock, without the end_of_slice_flag behind it. `mb` is a record that the syntax can give there, with the QP of the
-/// macroblock before. From the first bin that doesn't fit on nothing more is coded, and `Coder::is_full` tells it.
+/// Codes a macroblock, without the end_of_slice_flag behind it. `mb` is a record that the syntax can give there, with
+/// the QP of the macroblock before. From the first bin that doesn't fit on nothing more is coded, and
+/// `Coder::is_full` tells it.
 pub fn code_mb(coder: &mut Coder, contexts: &mut Contexts, mb: &MbRecord, around: &Around)
     requires ready { IsReady (seen coder.old contexts.old) }
     requires record_ { IsRecord (near_of around.now mb.now) mb.now }
@@ -71,10 +72,11 @@ pub fn code_mb(coder: &mut Coder, contexts: &mut Contexts, mb: &MbRecord, around
     write_chroma_ac(coder, contexts, mb, around);
 }
 
-/// Writes a macroblock, without the end_of_slice_flag behind it. `mb` is a record that the syntax can give there, with the QP of the
-/// macroblock before.
+/// Writes a macroblock, without the end_of_slice_flag behind it. `mb` is a record that the syntax can give there,
+/// with the QP of the macroblock before.
 ///
-/// `Full` comes exactly where one of the bins doesn't fit the coder's room; the states of the contexts aren't told then.
+/// `Full` comes exactly where one of the bins doesn't fit the coder's room; the states of the contexts aren't told
+/// then.
 pub fn write_mb(
     coder: &mut Coder,
     contexts: &mut Contexts,

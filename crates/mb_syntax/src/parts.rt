@@ -1,8 +1,9 @@
 // What is written of the partitions of P and B macroblocks (clauses 7.3.5.1 and 7.3.5.2).
 ghost use Rattle.std.specs.Prelude.{◌≡◌, ◌≤◌, ◌<◌, ◌+◌, ◌*◌, true, nat_lt, nat_abs, get_or};
-ghost use Rattle.enc_tables.specs.Records.{no_motion};
+ghost use Rattle.enc_tables.specs.Records.{no_motion, is_used};
 ghost use Rattle.spec_contexts.specs.Near.{pointed};
-ghost use Rattle.spec_contexts.specs.Increments.{has_motion as has_motion_of, ref_of, is_used, mvd_of, inc_mvd as inc_mvd_of};
+ghost use Rattle.enc_tables.specs.Kinds.{has_motion as has_motion_of};
+ghost use Rattle.spec_contexts.specs.Increments.{ref_of, mvd_of, inc_mvd as inc_mvd_of};
 ghost use Rattle.spec_syntax.specs.Inter.{mvd_string};
 ghost use Rattle.spec_partitions.specs.Parts.{parts_string};
 ghost use Rattle.spec_partitions.specs.Partitions.{shape_of as shape_of_kind, part_count as part_count_of, first_block as first_block_of};
@@ -20,8 +21,8 @@ use cabac_contexts::{Contexts, inc_mvd, inc_ref};
 use enc_tables::{MbKind, MbRecord, Motion};
 use mb_binarise::{bins_mvd, bins_ref, bins_sub_type};
 
-/// The shape of a macroblock's partitions: 0 for one, 1 for an upper and a lower one, 2 for a left and a right one, 3 for the four 8x8
-/// blocks (tables 7-13 and 7-14). Of a kind without partitions it is 0.
+/// The shape of a macroblock's partitions: 0 for one, 1 for an upper and a lower one, 2 for a left and a right one, 3
+/// for the four 8x8 blocks (tables 7-13 and 7-14). Of a kind without partitions it is 0.
 pub fn shape_of(kind: MbKind) -> u8
     ensures value { result ≡ shape_of_kind kind }
     ensures most { result ≤ 3 }
@@ -221,23 +222,6 @@ fn is_four(kind: MbKind) -> bool
     matches!(kind, MbKind::P8x8 | MbKind::B8x8)
 }
 
-/// Whether macroblocks of a kind have partitions, with written vector differences: neither intra nor skipped nor direct ones.
-pub fn has_motion(kind: MbKind) -> bool
-    ensures { result ≡ has_motion_of kind }
-{
-    matches!(
-        kind,
-        MbKind::P16
-            | MbKind::P16x8
-            | MbKind::P8x16
-            | MbKind::P8x8
-            | MbKind::B16
-            | MbKind::B16x8
-            | MbKind::B8x16
-            | MbKind::B8x8
-    )
-}
-
 fn motion_of(mb: &MbRecord, block: u8) -> Motion
     requires { block ≤ 3 }
     ensures { result ≡ get_or mb.now.motion block no_motion }
@@ -290,7 +274,7 @@ fn write_moving(coder: &mut Coder, contexts: &mut Contexts, mb: &MbRecord, aroun
     requires record_ { IsRecord (near_of around.now mb.now) mb.now }
     ensures { Codes (seen coder.old contexts.old) (string_where (has_motion_of mb.now.kind) (inter_string (near_of around.now mb.now) mb.now)) (seen coder.new contexts.new) }
 {
-    if has_motion(mb.kind) {
+    if mb.kind.has_motion() {
         write_inter(coder, contexts, mb, around);
     }
 }

@@ -9,7 +9,7 @@ ghost use Rattle.mb_syntax.specs.Around.{near_of};
 use crate::Around;
 use bin_writer::code_bins;
 use cabac_coder::Coder;
-use cabac_contexts::{Contexts, inc_chroma_cbp, inc_luma_cbp, inc_qp_delta, is_16x16};
+use cabac_contexts::{Contexts, inc_chroma_cbp, inc_luma_cbp, inc_qp_delta};
 use enc_tables::{MbKind, MbRecord};
 use mb_binarise::{bins_chroma_cbp, bins_luma_cbp, bins_qp_delta};
 
@@ -64,7 +64,7 @@ pub fn write_chroma_pattern(
 fn has_residual(mb: &MbRecord) -> bool
     ensures { result ≡ has_residual_of mb.now }
 {
-    is_16x16(mb.kind) || mb.luma_cbp != 0 || mb.chroma_cbp != 0
+    mb.kind.is_16x16() || mb.luma_cbp != 0 || mb.chroma_cbp != 0
 }
 
 /// mb_qp_delta, which is 0.

@@ -7,9 +7,10 @@ use Rattle.spec_intra.specs.declared.Nb16.{Nb16}
 use Rattle.spec_intra.specs.declared.NbC.{NbC}
 use Rattle.spec_intra.specs.Near.{plane_sample, neighbours4, neighbours8, neighbours16, neighbours_chroma}
 use Rattle.spec_intra.specs.Predictions.{edge4, edge8, from_edge, predicted4, predicted8, predicted16, predicted_chroma, is_allowed}
-use Rattle.spec_built.specs.Parts.{block_at}
+use Rattle.spec_reconstruction.specs.Parts.{block_at}
 use Rattle.spec_choice.specs.declared.ModeCost.{ModeCost}
-use Rattle.spec_choice.specs.Modes.{sad, best_mode}
+use Rattle.spec_basics.specs.Sums.{sad}
+use Rattle.spec_choice.specs.Modes.{best_mode}
 use Rattle.spec_choice.specs.IntraPlans.{best4, best8, best16, best_chroma}
 
 pub best4_is : (wide : ℕ) (luma : List ℕ) (avail : Avail) (x y : ℕ) (near : Nb4) (source e : List ℕ) (a : Avail) (r : ModeCost)

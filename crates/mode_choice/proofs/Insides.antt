@@ -5,7 +5,8 @@ use Rattle.picture_planes.specs.declared.plane.Plane.{Plane}
 use Rattle.plane_blocks.specs.Reach.{Reachable, Readable}
 use Rattle.plane_blocks.proofs.AvailLaws.{left_is, above_is, corner_is, beyond_is}
 use Rattle.spec_intra.specs.declared.Avail.{Avail}
-use Rattle.spec_intra.specs.Near.{block_avail, block_number, macroblock_avail}
+use Rattle.spec_intra.specs.Near.{block_avail, macroblock_avail}
+use Rattle.spec_basics.specs.Blocks.{block_number}
 use Rattle.mode_choice.specs.Inside.{Inside}
 
 either : (p q : Bool) → p || q ≡ true → (p ≡ true) ⊎ (q ≡ true)

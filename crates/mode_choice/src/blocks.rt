@@ -3,7 +3,7 @@ ghost use Rattle.std.specs.Prelude.{◌≡◌, ◌≤◌, ◌<◌, ◌+◌, ◌*
 ghost use Rattle.picture_planes.specs.Samples.{samples_of};
 ghost use Rattle.plane_blocks.specs.Reach.{Reachable, Readable};
 ghost use Rattle.spec_intra.specs.Predictions.{from_edge, is_allowed as may_have, predicted16, predicted_chroma};
-ghost use Rattle.spec_choice.specs.Modes.{sad};
+ghost use Rattle.spec_basics.specs.Sums.{sad};
 ghost use Rattle.spec_choice.specs.IntraPlans.{best4, best8, best16, best_chroma};
 
 use crate::difference::difference;

@@ -9,7 +9,7 @@ ghost use Rattle.spec_choice.specs.IntraPlans.{best4_of, best8_of, total, intra_
 ghost use Rattle.mode_choice.specs.Inside.{Inside};
 
 use crate::blocks::{choose_chroma, choose4, choose8, choose16};
-use enc_tables::{MbPlan, Motion, PartPlan, Vector};
+use enc_tables::{MbPlan, Motion, PartPlan};
 use intra_pred::Avail;
 use picture_planes::{Picture, Plane};
 use plane_blocks::{near_block4, near_block8, near_macroblock};
@@ -28,7 +28,7 @@ struct Modes8 {
     cost: u32,
 }
 
-#[tactic(auto, unfolding(spec_choice::specs::IntraPlans::total))]
+#[tactic(auto, unfolding(spec_choice::specs::IntraPlans::total, spec_basics::specs::Sums::sum_below))]
 fn plan4(luma: &Plane, mb: &Avail, x: u32, y: u32) -> Modes4
     requires { Inside luma.now mb.now x y }
     ensures modes { result.modes ≡ line 16 (λ b. (best4_of luma.now.width (samples_of luma.now) mb.now x y b).mode) }
@@ -48,7 +48,7 @@ fn plan4(luma: &Plane, mb: &Avail, x: u32, y: u32) -> Modes4
     Modes4 { modes, cost }
 }
 
-#[tactic(auto, unfolding(spec_choice::specs::IntraPlans::total))]
+#[tactic(auto, unfolding(spec_choice::specs::IntraPlans::total, spec_basics::specs::Sums::sum_below))]
 fn plan8(luma: &Plane, mb: &Avail, x: u32, y: u32) -> Modes8
     requires { Inside luma.now mb.now x y }
     ensures modes { result.modes ≡ line 4 (λ k. (best8_of luma.now.width (samples_of luma.now) mb.now x y k).mode) }
@@ -88,12 +88,10 @@ fn quarters(luma: &Plane, mb: &Avail, x: u32, y: u32, t8x8: bool) -> Modes8
 fn no_parts() -> [PartPlan; 9]
     ensures { result ≡ replicate 9 blank_part }
 {
-    let zero = Vector { x: 0, y: 0 };
-    let motion = Motion {
-        refs: [-1, -1],
-        vectors: [zero, zero],
-    };
-    [PartPlan { motion, cost: 0 }; 9]
+    [PartPlan {
+        motion: Motion::NONE,
+        cost: 0,
+    }; 9]
 }
 
 /// The intra part of a macroblock's plan. The macroblock is in column `column` of row `row`; the picture has `width`

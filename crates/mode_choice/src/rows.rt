@@ -9,9 +9,10 @@ use crate::macroblock::plan_macroblock;
 use enc_tables::{RowPlan, SliceKind};
 use picture_planes::Picture;
 
-/// Plans row `row` of macroblocks of the source: for each macroblock the best intra modes and what they cost, as sums of absolute
-/// differences of the source and its prediction from neighbours in the source. The slice begins with row `first_row`; nothing
-/// above it is used. Without `t8x8` no 8x8 blocks are planned. `out` has to have a place for each macroblock of the row.
+/// Plans row `row` of macroblocks of the source: for each macroblock the best intra modes and what they cost, as sums
+/// of absolute differences of the source and its prediction from neighbours in the source. The slice begins with row
+/// `first_row`; nothing above it is used. Without `t8x8` no 8x8 blocks are planned. `out` has to have a place for
+/// each macroblock of the row.
 pub fn plan_row(
     source: &Picture,
     _kind: SliceKind,

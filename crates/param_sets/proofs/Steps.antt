@@ -4,9 +4,8 @@ use Rattle.std.specs.Prelude.{Result}
 use Rattle.std.specs.Result.{is_err}
 use Rattle.std.proofs.lemmas.List.{drop_more, drop_all, take_at}
 use Rattle.spec_bits.specs.declared.Field.{Field}
-use Rattle.spec_bits.specs.declared.heads.Field.TheVariants.{U}
-use Rattle.spec_bits.specs.Fields.{field_bits, fields_bits}
-use Rattle.spec_bits.specs.Allowed.{FieldFits, FieldsFit}
+use Rattle.spec_bits.specs.declared.fields.Field.TheVariants.{U}
+use Rattle.spec_bits.specs.Fields.{field_bits, fields_bits, FieldFits, FieldsFit}
 use Rattle.spec_bits.proofs.FieldLists.{fields_bits-none, fields_bits-cons, fields_bits-append}
 use Rattle.bit_strings.specs.BitText.{BitText, Appends}
 use Rattle.param_sets.specs.Pieces.{IsLonger, Grows}

@@ -1,7 +1,6 @@
 // Fields one after another.
 ghost use Rattle.std.specs.Prelude.{◌≡◌, ◌+◌, ◌++◌, ◌<◌, ◌≤◌, length};
-ghost use Rattle.spec_bits.specs.Fields.{field_bits, fields_bits};
-ghost use Rattle.spec_bits.specs.Allowed.{FieldFits, FieldsFit};
+ghost use Rattle.spec_bits.specs.Fields.{field_bits, fields_bits, FieldFits, FieldsFit};
 ghost use Rattle.bit_strings.specs.BitText.{Appends};
 ghost use Rattle.param_sets.specs.Pieces.{Grows};
 

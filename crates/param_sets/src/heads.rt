@@ -3,19 +3,23 @@ ghost use Rattle.std.specs.Prelude.{◌≡◌, ℕ, ◌+◌, ◌-◌, ◌*◌, �
 ghost use Rattle.spec_bits.specs.declared.Field.TheVariants.{U, Ue};
 ghost use Rattle.spec_bits.specs.Golomb.{to_byte};
 ghost use Rattle.spec_bits.specs.Bits.{digit};
-ghost use Rattle.spec_bits.specs.Fields.{fields_bits};
-ghost use Rattle.spec_bits.specs.Heads.{in_mbs, padding, cropping_fields, usability_fields, sequence_fields, format_fields, picture_fields, kind_number, place_fields, qp_field, moved_fields, list_fields, marking_fields, init_fields, slice_fields, slice_head_bits};
-ghost use Rattle.spec_bits.specs.Allowed.{FieldFits, IsSeqHead, IsSliceHead, IsTiming, HasLists};
+ghost use Rattle.spec_bits.specs.Fields.{fields_bits, FieldFits};
+ghost use Rattle.spec_basics.specs.Sizes.{in_macroblocks};
+ghost use Rattle.spec_headers.specs.HeadFields.{padding, cropping_fields, usability_fields, sequence_fields, format_fields, picture_fields, place_fields, qp_field, moved_fields, list_fields, marking_fields, init_fields, slice_fields, slice_head_bits};
+ghost use Rattle.spec_headers.specs.Heads.{kind_number};
+ghost use Rattle.spec_headers.specs.Allowed.{IsSeqHead, IsSliceHead, IsTiming, HasLists};
 ghost use Rattle.bit_strings.specs.BitText.{Appends};
 ghost use Rattle.param_sets.specs.Pieces.{Grows};
 
 use crate::fields::put_fields;
 use bit_strings::{BitBuf, Full};
 use enc_tables::SliceKind;
+use spec_bits::Field;
 use spec_bits::Field::{Se, U, Ue};
-use spec_bits::{Field, SeqHead, SliceHead, Timing};
+use spec_headers::{SeqHead, SliceHead, Timing};
 
-/// Appends the fields of a sequence parameter set of High profile (clause 7.3.2.1.1). The caller ends the payload with `trail`.
+/// Appends the fields of a sequence parameter set of High profile (clause 7.3.2.1.1). The caller ends the payload
+/// with `trail`.
 ///
 /// `Full` comes exactly where they don't fit; the buffer is then unchanged.
 pub fn write_sps(out: &mut BitBuf, head: &SeqHead) -> Result<(), Full>
@@ -31,7 +35,8 @@ pub fn write_sps(out: &mut BitBuf, head: &SeqHead) -> Result<(), Full>
     Ok(())
 }
 
-/// Appends the fields of a picture parameter set (clause 7.3.2.2): whether the arithmetic coder is used, and whether 8x8 transforms are. The caller ends the payload with `trail`.
+/// Appends the fields of a picture parameter set (clause 7.3.2.2): whether the arithmetic coder is used, and whether
+/// 8x8 transforms are. The caller ends the payload with `trail`.
 ///
 /// `Full` comes exactly where they don't fit; the buffer is then unchanged.
 pub fn write_pps(out: &mut BitBuf, cabac: bool, t8x8: bool) -> Result<(), Full>
@@ -72,7 +77,7 @@ fn put_sequence(out: &mut BitBuf, head: &SeqHead) -> Result<(), Full>
 }
 
 // From the profile to direct_8x8_inference_flag.
-#[tactic(auto, unfolding(spec_bits::specs::Heads::format_fields))]
+#[tactic(auto, unfolding(spec_headers::specs::HeadFields::format_fields))]
 fn put_format(out: &mut BitBuf, head: &SeqHead) -> Result<(), Full>
     requires { IsSeqHead head.now }
     ensures { Grows out.old out.new (fields_bits (format_fields head.now)) result }
@@ -82,34 +87,36 @@ fn put_format(out: &mut BitBuf, head: &SeqHead) -> Result<(), Full>
     put_fields(
         out,
         &[
-            U(8, 100),
-            U(8, 0),
-            U(8, head.level as u32),
-            Ue(0),
-            Ue(1),
-            Ue(0),
-            Ue(0),
-            U(1, 0),
-            U(1, 0),
-            Ue(12),
-            Ue(0),
-            Ue(12),
-            Ue(head.refs),
-            U(1, 0),
-            Ue(wide - 1),
-            Ue(high - 1),
-            U(1, 1),
-            U(1, 1),
+            U(8, 100), // profile_idc
+            U(8, 0), // constraint_set0_flag to constraint_set5_flag, reserved_zero_2bits
+            U(8, head.level as u32), // level_idc
+            Ue(0), // seq_parameter_set_id
+            Ue(1), // chroma_format_idc
+            Ue(0), // bit_depth_luma_minus8
+            Ue(0), // bit_depth_chroma_minus8
+            U(1, 0), // qpprime_y_zero_transform_bypass_flag
+            U(1, 0), // seq_scaling_matrix_present_flag
+            Ue(12), // log2_max_frame_num_minus4
+            Ue(0), // pic_order_cnt_type
+            Ue(12), // log2_max_pic_order_cnt_lsb_minus4
+            Ue(head.refs), // max_num_ref_frames
+            U(1, 0), // gaps_in_frame_num_value_allowed_flag
+            Ue(wide - 1), // pic_width_in_mbs_minus1
+            Ue(high - 1), // pic_height_in_map_units_minus1
+            U(1, 1), // frame_mbs_only_flag
+            U(1, 1), // direct_8x8_inference_flag
         ],
     )
 }
 
-#[tactic(auto, unfolding(spec_bits::specs::Heads::cropping_fields))]
+#[tactic(auto, unfolding(spec_headers::specs::HeadFields::cropping_fields))]
 fn put_cropping(out: &mut BitBuf, width: u32, height: u32) -> Result<(), Full>
     requires width { (1 ≤ width) × (width ≤ 4096) }
     requires height { (1 ≤ height) × (height ≤ 4096) }
     ensures { Grows out.old out.new (fields_bits (cropping_fields width height)) result }
 {
+    // frame_cropping_flag; frame_crop_left_offset, frame_crop_right_offset, frame_crop_top_offset,
+    // frame_crop_bottom_offset
     let right = padded_by(width);
     let bottom = padded_by(height);
     if is_whole(right, bottom) {
@@ -124,7 +131,7 @@ fn is_whole(right: u32, bottom: u32) -> bool
     right == 0 && bottom == 0
 }
 
-#[tactic(auto, unfolding(spec_bits::specs::Heads::usability_fields))]
+#[tactic(auto, unfolding(spec_headers::specs::HeadFields::usability_fields))]
 fn put_usability(out: &mut BitBuf, refs: u32, timing: Option<Timing>) -> Result<(), Full>
     requires refs { refs ≤ 4 }
     requires timing { IfSome timing IsTiming }
@@ -136,7 +143,7 @@ fn put_usability(out: &mut BitBuf, refs: u32, timing: Option<Timing>) -> Result<
     }
 }
 
-#[tactic(auto, unfolding(spec_bits::specs::Heads::usability_fields, spec_bits::specs::Heads::buffer_fields))]
+#[tactic(auto, unfolding(spec_headers::specs::HeadFields::usability_fields, spec_headers::specs::HeadFields::buffer_fields))]
 fn put_timing(out: &mut BitBuf, refs: u32, timing: Timing) -> Result<(), Full>
     requires refs { refs ≤ 4 }
     requires timing { IsTiming timing }
@@ -146,37 +153,37 @@ fn put_timing(out: &mut BitBuf, refs: u32, timing: Timing) -> Result<(), Full>
     put_fields(
         out,
         &[
-            U(1, 1),
-            U(1, 0),
-            U(1, 0),
-            U(1, 0),
-            U(1, 0),
-            U(1, 1),
-            U(32, timing.den),
-            U(32, 2 * timing.num),
-            U(1, 1),
-            U(1, 1),
-            Ue(0),
-            U(4, 0),
-            U(4, 0),
-            Ue(timing.rate / 64 - 1),
-            Ue(timing.cpb / 16 - 1),
-            U(1, 1),
-            U(5, 31),
-            U(5, 23),
-            U(5, 23),
-            U(5, 0),
-            U(1, 0),
-            U(1, 0),
-            U(1, 0),
-            U(1, 1),
-            U(1, 1),
-            Ue(0),
-            Ue(0),
-            Ue(8),
-            Ue(8),
-            reorder,
-            Ue(refs),
+            U(1, 1), // vui_parameters_present_flag
+            U(1, 0), // aspect_ratio_info_present_flag
+            U(1, 0), // overscan_info_present_flag
+            U(1, 0), // video_signal_type_present_flag
+            U(1, 0), // chroma_loc_info_present_flag
+            U(1, 1), // timing_info_present_flag
+            U(32, timing.den), // num_units_in_tick
+            U(32, 2 * timing.num), // time_scale
+            U(1, 1), // fixed_frame_rate_flag
+            U(1, 1), // nal_hrd_parameters_present_flag
+            Ue(0), // cpb_cnt_minus1
+            U(4, 0), // bit_rate_scale
+            U(4, 0), // cpb_size_scale
+            Ue(timing.rate / 64 - 1), // bit_rate_value_minus1
+            Ue(timing.cpb / 16 - 1), // cpb_size_value_minus1
+            U(1, 1), // cbr_flag
+            U(5, 31), // initial_cpb_removal_delay_length_minus1
+            U(5, 23), // cpb_removal_delay_length_minus1
+            U(5, 23), // dpb_output_delay_length_minus1
+            U(5, 0), // time_offset_length
+            U(1, 0), // vcl_hrd_parameters_present_flag
+            U(1, 0), // low_delay_hrd_flag
+            U(1, 0), // pic_struct_present_flag
+            U(1, 1), // bitstream_restriction_flag
+            U(1, 1), // motion_vectors_over_pic_boundaries_flag
+            Ue(0), // max_bytes_per_pic_denom
+            Ue(0), // max_bits_per_mb_denom
+            Ue(8), // log2_max_mv_length_horizontal
+            Ue(8), // log2_max_mv_length_vertical
+            reorder, // max_num_reorder_frames
+            Ue(refs), // max_dec_frame_buffering
         ],
     )
 }
@@ -198,7 +205,7 @@ fn reorder_depth(reorder: bool) -> Field
 // How many macroblocks cover this many samples.
 fn macroblocks(samples: u32) -> u32
     requires { samples ≤ 4096 }
-    ensures { result ≡ in_mbs samples }
+    ensures { result ≡ in_macroblocks samples }
 {
     (samples + 15) / 16
 }
@@ -211,7 +218,7 @@ fn padded_by(samples: u32) -> u32
     16 * macroblocks(samples) - samples
 }
 
-#[tactic(auto, unfolding(spec_bits::specs::Heads::picture_fields))]
+#[tactic(auto, unfolding(spec_headers::specs::HeadFields::picture_fields))]
 fn put_picture(out: &mut BitBuf, cabac: bool, t8x8: bool) -> Result<(), Full>
     ensures { Grows out.old out.new (fields_bits (picture_fields cabac t8x8)) result }
 {
@@ -220,24 +227,24 @@ fn put_picture(out: &mut BitBuf, cabac: bool, t8x8: bool) -> Result<(), Full>
     put_fields(
         out,
         &[
-            Ue(0),
-            Ue(0),
-            entropy,
-            U(1, 0),
-            Ue(0),
-            Ue(0),
-            Ue(0),
-            U(1, 0),
-            U(2, 0),
-            Se(0),
-            Se(0),
-            Se(0),
-            U(1, 0),
-            U(1, 0),
-            U(1, 0),
-            transform8,
-            U(1, 0),
-            Se(0),
+            Ue(0), // pic_parameter_set_id
+            Ue(0), // seq_parameter_set_id
+            entropy, // entropy_coding_mode_flag
+            U(1, 0), // bottom_field_pic_order_in_frame_present_flag
+            Ue(0), // num_slice_groups_minus1
+            Ue(0), // num_ref_idx_l0_default_active_minus1
+            Ue(0), // num_ref_idx_l1_default_active_minus1
+            U(1, 0), // weighted_pred_flag
+            U(2, 0), // weighted_bipred_idc
+            Se(0), // pic_init_qp_minus26
+            Se(0), // pic_init_qs_minus26
+            Se(0), // chroma_qp_index_offset
+            U(1, 0), // deblocking_filter_control_present_flag
+            U(1, 0), // constrained_intra_pred_flag
+            U(1, 0), // redundant_pic_cnt_present_flag
+            transform8, // transform_8x8_mode_flag
+            U(1, 0), // pic_scaling_matrix_present_flag
+            Se(0), // second_chroma_qp_index_offset
         ],
     )
 }
@@ -284,7 +291,8 @@ fn ones(count: u8) -> u64
     (1 << count) - 1
 }
 
-#[tactic(auto, unfolding(spec_bits::specs::Heads::place_fields))]
+// first_mb_in_slice, slice_type, pic_parameter_set_id, frame_num, idr_pic_id, pic_order_cnt_lsb.
+#[tactic(auto, unfolding(spec_headers::specs::HeadFields::place_fields))]
 fn put_place(out: &mut BitBuf, head: &SliceHead) -> Result<(), Full>
     requires { head.now.first_mb < 2 ^ 32 - 1 }
     ensures { Grows out.old out.new (fields_bits (place_fields head.now)) result }
@@ -311,7 +319,7 @@ fn slice_type(kind: SliceKind) -> u32
     }
 }
 
-#[tactic(auto, unfolding(spec_bits::specs::Heads::list_fields))]
+#[tactic(auto, unfolding(spec_headers::specs::HeadFields::list_fields))]
 fn put_lists(
     out: &mut BitBuf,
     kind: SliceKind,
@@ -333,6 +341,7 @@ fn put_list(out: &mut BitBuf, refs0: u8, moved: Option<u16>) -> Result<(), Full>
     requires { 1 ≤ refs0 }
     ensures { Grows out.old out.new (fields_bits (U 1 1 ∷ Ue (refs0 - 1) ∷ moved_fields moved)) result }
 {
+    // num_ref_idx_active_override_flag, num_ref_idx_l0_active_minus1
     put_fields(out, &[U(1, 1), Ue((refs0 - 1) as u32)])?;
     put_moved(out, moved)
 }
@@ -344,11 +353,16 @@ fn put_two_lists(out: &mut BitBuf, refs0: u8, refs1: u8, moved: Option<u16>) -> 
 {
     let first = Ue((refs0 - 1) as u32);
     let second = Ue((refs1 - 1) as u32);
+    // direct_spatial_mv_pred_flag, num_ref_idx_active_override_flag, num_ref_idx_l0_active_minus1,
+    // num_ref_idx_l1_active_minus1
     put_fields(out, &[U(1, 1), U(1, 1), first, second])?;
     put_moved(out, moved)?;
+    // ref_pic_list_modification_flag_l1
     put_fields(out, &[U(1, 0)])
 }
 
+// ref_pic_list_modification_flag_l0, and of the one command modification_of_pic_nums_idc, abs_diff_pic_num_minus1 and
+// the end.
 fn put_moved(out: &mut BitBuf, moved: Option<u16>) -> Result<(), Full>
     ensures { Grows out.old out.new (fields_bits (moved_fields moved)) result }
 {
@@ -358,7 +372,9 @@ fn put_moved(out: &mut BitBuf, moved: Option<u16>) -> Result<(), Full>
     }
 }
 
-#[tactic(auto, unfolding(spec_bits::specs::Heads::marking_fields))]
+// Of IDR pictures no_output_of_prior_pics_flag and long_term_reference_flag, of other references
+// adaptive_ref_pic_marking_mode_flag.
+#[tactic(auto, unfolding(spec_headers::specs::HeadFields::marking_fields))]
 fn put_marking(out: &mut BitBuf, idr: bool, kind: SliceKind) -> Result<(), Full>
     ensures { Grows out.old out.new (fields_bits (marking_fields idr kind)) result }
 {
@@ -370,7 +386,7 @@ fn put_marking(out: &mut BitBuf, idr: bool, kind: SliceKind) -> Result<(), Full>
 }
 
 // cabac_init_idc and slice_qp_delta.
-#[tactic(auto, unfolding(spec_bits::specs::Heads::init_fields))]
+#[tactic(auto, unfolding(spec_headers::specs::HeadFields::init_fields))]
 fn put_quantiser(out: &mut BitBuf, cabac: bool, kind: SliceKind, qp: u8) -> Result<(), Full>
     requires { qp ≤ 51 }
     ensures { Grows out.old out.new (fields_bits (init_fields cabac kind ++ (qp_field qp ∷ []))) result }

@@ -7,7 +7,7 @@ mod messages;
 
 pub use heads::{write_pps, write_slice_head, write_sps};
 pub use messages::{write_buffering, write_timing};
-pub use spec_bits::{SeqHead, SliceHead, Timing};
+pub use spec_headers::{SeqHead, SliceHead, Timing};
 
 #[cfg(test)]
 mod tests;

@@ -8,13 +8,14 @@ use Rattle.enc_tables.specs.declared.records.MbPlan.{MbPlan}
 use Rattle.enc_tables.specs.declared.records.MbRecord.{MbRecord}
 use Rattle.spec_film.specs.Films.{Planes}
 use Rattle.spec_lists.specs.Lists.{Lists, pictures_of}
-use Rattle.spec_slice_layer.specs.Layer.{Slice}
-use Rattle.spec_built.specs.Inter.{no_sources}
-use Rattle.spec_built.specs.Records.{site_of, slice_built}
-use Rattle.spec_built.specs.Slices.{coded_record, coded_slice}
-use Rattle.spec_records.proofs.Whole.{record_qp}
+use Rattle.spec_slice_payload.specs.Layer.{Slice}
+use Rattle.spec_reconstruction.specs.Inter.{no_sources}
+use Rattle.spec_reconstruction.specs.Records.{site_of, slice_built}
+use Rattle.spec_reconstruction.specs.Slices.{coded_record, coded_slice}
+use Rattle.spec_record_laws.proofs.Whole.{record_qp}
 use Rattle.spec_filter.specs.Pictures.{picture_filtered}
-use Rattle.spec_encoding.specs.Frames.{blank_planes, slices_built, all_records, picture_of}
+use Rattle.spec_decoder.specs.Frames.{blank_planes, picture_made}
+use Rattle.spec_encoding.specs.Frames.{slices_built, all_records, picture_of}
 use Rattle.spec_encoding.specs.Coding.{Settled, first_of, count_of, plan_at, kind_at, head_of, records_of, slices_of}
 use Rattle.spec_encoding.proofs.Numbers.{row_last}
 use Rattle.picture_coder.specs.declared.coding.Coding.{Coding}
@@ -57,7 +58,7 @@ all_quantised c source built records some small long coded = subst (λ (rs : Lis
 
 pub filtered : (c : Coding) (source built : Planes) (records : List MbRecord) (width : ℕ) → 0 < c.slices → length records ≡ c.down * c.across → width ≡ 16 * c.across → SlicesCoded c source c.slices built records
     → picture_filtered [] [] records width built ≡ picture_of c.across c.down [] (slices_to c source c.slices)
-unfolding picture_of
+unfolding picture_made
 filtered c source built records width some long wide coded =
     ap (λ (rs : List MbRecord). picture_filtered [] [] rs width built) (all_of c source built records some long coded)
     ∙ ap (λ (w : ℕ). picture_filtered [] [] (all_records (slices_to c source c.slices)) w built) wide

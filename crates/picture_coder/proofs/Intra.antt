@@ -1,11 +1,12 @@
 -- Slices of IDR pictures refer to no picture.
 use Rattle.std.proofs.Common.{◌≡◌, ◌++◌, ℕ, zero, suc, List, [], ◌∷◌, refl}
 use Rattle.spec_film.specs.Films.{Planes}
-use Rattle.spec_reading.specs.HeadReaders.{idr_head}
+use Rattle.spec_headers.specs.Heads.{idr_head}
 use Rattle.spec_lists.specs.Lists.{no_lists, lists_of}
-use Rattle.spec_slice_layer.specs.Layer.{Slice}
-use Rattle.spec_built.specs.Inter.{no_sources}
-use Rattle.spec_encoding.specs.Frames.{lists_by, sources_by, first_lists}
+use Rattle.spec_slice_payload.specs.Layer.{Slice}
+use Rattle.spec_reconstruction.specs.Inter.{no_sources}
+use Rattle.spec_decoder.specs.Frames.{lists_by, sources_by}
+use Rattle.spec_encoding.specs.Frames.{first_lists}
 use Rattle.spec_encoding.specs.Coding.{Settled, head_of, slices_of}
 
 pub no_sources_there : (c : Settled) (number k : ℕ) → sources_by (head_of c number k) [] ≡ no_sources

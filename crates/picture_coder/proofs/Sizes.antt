@@ -9,7 +9,7 @@ use Rattle.picture_planes.specs.Samples.{SameShape}
 use Rattle.picture_planes.specs.Pictures.{SameShapes}
 use Rattle.bit_strings.specs.BitText.{BitText, Appends}
 use Rattle.spec_film.specs.Films.{Planes}
-use Rattle.spec_encoding.specs.Frames.{blank_planes}
+use Rattle.spec_decoder.specs.Frames.{blank_planes}
 use Rattle.picture_coder.specs.declared.coding.Coding.{Coding}
 use Rattle.picture_coder.specs.Pictures.{IsCoding}
 use Rattle.picture_coder.specs.Sizes.{HasSizes}

@@ -4,12 +4,14 @@ use Rattle.std.proofs.lemmas.List.{get_or-take, get_or-drop, length-take, length
 use Rattle.enc_tables.specs.declared.records.MbRecord.{MbRecord}
 use Rattle.enc_tables.specs.declared.plans.RowPlan.{RowPlan}
 use Rattle.picture_planes.specs.declared.picture.Picture.{Picture}
-use Rattle.spec_bits.specs.declared.heads.SliceHead.{SliceHead}
+use Rattle.spec_headers.specs.declared.heads.SliceHead.{SliceHead}
 use Rattle.spec_film.specs.Films.{Planes}
-use Rattle.spec_reading.specs.HeadReaders.{idr_head}
-use Rattle.spec_slice_layer.specs.Layer.{Format, Slice, IsIdrHead, layer_bits}
-use Rattle.spec_built.specs.Inter.{no_sources}
-use Rattle.spec_built.specs.Records.{slice_built}
+use Rattle.spec_headers.specs.Heads.{idr_head}
+use Rattle.spec_slice_payload.specs.Layer.{Format, Slice}
+use Rattle.spec_slice_payload.specs.Slices.{IsIdrHead}
+use Rattle.spec_slice_payload.specs.Writing.{layer_bits}
+use Rattle.spec_reconstruction.specs.Inter.{no_sources}
+use Rattle.spec_reconstruction.specs.Records.{slice_built}
 use Rattle.spec_encoding.specs.Coding.{first_row, first_of, count_of, records_of}
 use Rattle.spec_encoding.proofs.Coded.{length-coded}
 use Rattle.spec_encoding.proofs.Numbers.{behind}

@@ -2,13 +2,16 @@
 use Rattle.std.proofs.Common.{◌≡◌, ◌%◌, ◌++◌, ℕ, zero, suc, true, false, List, [], ◌∷◌, map, refl, sym, ap, ap₂, ◌∙◌, arith}
 use Rattle.spec_film.specs.declared.FilmHead.{FilmHead}
 use Rattle.spec_film.specs.Films.{Planes}
-use Rattle.spec_bits.specs.Heads.{sequence_payload, picture_payload}
+use Rattle.spec_headers.specs.HeadFields.{sequence_payload, picture_payload}
 use Rattle.spec_bits.specs.Units.{unit_bytes}
-use Rattle.spec_reading.specs.HeadReaders.{idr_head}
+use Rattle.spec_headers.specs.Heads.{idr_head}
 use Rattle.spec_words.specs.declared.Settings.{Settings}
-use Rattle.spec_slice_layer.specs.Layer.{Format, Slice, layer_payload}
+use Rattle.spec_slice_payload.specs.Layer.{Format, Slice}
+use Rattle.spec_slice_payload.specs.Writing.{layer_payload}
 use Rattle.spec_pictures.specs.Coded.{slice_units, picture_units}
-use Rattle.spec_encoding.specs.Frames.{format_of, blank_planes, slices_built}
+use Rattle.spec_decoder.specs.Macroblocks.{format_of}
+use Rattle.spec_decoder.specs.Frames.{blank_planes}
+use Rattle.spec_encoding.specs.Frames.{slices_built}
 use Rattle.spec_encoding.specs.Coding.{Settled, first_of, records_of, slices_of, coded_picture}
 use Rattle.spec_encoding.specs.Encoding.{sequence_of, settled, with_payload, coded_with_payloads, encoded_picture}
 use Rattle.picture_coder.specs.Slices.{units_of}

@@ -5,7 +5,7 @@ use Rattle.picture_planes.specs.declared.picture.Picture.{Picture}
 use Rattle.picture_planes.specs.declared.stripe.Stripe.{Stripe}
 use Rattle.picture_planes.specs.Samples.{samples_of}
 use Rattle.picture_planes.specs.Pictures.{planes_of}
-use Rattle.intra_coder.specs.Stripes.{samples_from, planes_in}
+use Rattle.residual_coder.specs.Stripes.{samples_from, planes_in}
 use Rattle.slice_coder.specs.Plans.{HoldsRows, IsWhole}
 use Rattle.picture_coder.specs.declared.coding.Coding.{Coding}
 use Rattle.picture_coder.specs.Pictures.{IsCoding}

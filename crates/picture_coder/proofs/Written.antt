@@ -1,6 +1,5 @@
 -- Slices written one behind another.
 use Rattle.std.proofs.Common.{◌≡◌, ◌≤◌, ◌<◌, ◌+◌, ◌-◌, ◌*◌, ◌%◌, ◌++◌, ℕ, zero, suc, Bool, false, List, [], ◌∷◌, length, take, refl, sym, ap, ap₂, subst, ◌∙◌, arith, append_assoc, append-nil, length-append}
-use Rattle.std.proofs.lemmas.List.Concat.{flat_map-append}
 use Rattle.enc_tables.specs.declared.records.MbRecord.{MbRecord}
 use Rattle.bit_strings.specs.BitText.{BitText}
 use Rattle.nal_writer.specs.Runs.{IsLonger}
@@ -11,10 +10,13 @@ use Rattle.spec_bits.proofs.Digits.{bits_of_bytes-append, length-bits_of_bytes, 
 use Rattle.spec_bits.proofs.Codes.{align_whole}
 use Rattle.spec_bits.proofs.Payloads.{length-escape_least}
 use Rattle.spec_film.specs.Films.{Planes}
-use Rattle.spec_slice_layer.specs.Layer.{Format, Slice, layer_bits, layer_payload}
-use Rattle.spec_built.specs.Inter.{Sources, no_sources}
-use Rattle.spec_built.specs.Records.{slice_built}
-use Rattle.spec_encoding.specs.Frames.{blank_planes, sources_by, slices_built, all_records}
+use Rattle.spec_slice_payload.specs.Layer.{Format, Slice}
+use Rattle.spec_slice_payload.specs.Writing.{layer_bits, layer_payload}
+use Rattle.spec_reconstruction.specs.Inter.{Sources, no_sources}
+use Rattle.spec_reconstruction.specs.Records.{slice_built}
+use Rattle.spec_decoder.specs.Frames.{blank_planes, sources_by, slices_made}
+use Rattle.spec_decoder.proofs.OfRecords.{built_last, records_last}
+use Rattle.spec_encoding.specs.Frames.{slices_built, all_records}
 use Rattle.spec_encoding.specs.Coding.{slices_of}
 use Rattle.spec_encoding.proofs.Ends.{payload_ends}
 use Rattle.spec_encoding.proofs.Numbers.{row_none}
@@ -59,15 +61,10 @@ unfolding slices_of
 more_slices c source k = let e : k + 1 ≡ suc k = omega arith in ap (λ (n : ℕ). slices_to c source n) e
 
 pub more_built : (across : ℕ) (ss : List Slice) (s : Slice) (p : Planes) → slices_built across [] (ss ++ s ∷ []) p ≡ slice_built across (sources_by s.head []) s.head.first_mb s.records (slices_built across [] ss p)
-unfolding slices_built
-more_built across [] s p = refl
-more_built across (x ∷ ss) s p = more_built across ss s (slice_built across (sources_by x.head []) x.head.first_mb x.records p)
+more_built across ss s p = built_last across [] ss s p
 
 pub more_records : (ss : List Slice) (s : Slice) → all_records (ss ++ s ∷ []) ≡ all_records ss ++ s.records
-more_records ss s = flat_map-append (λ (x : Slice). x.records) ss (s ∷ []) ∙ ap (λ (t : List MbRecord). all_records ss ++ t) (nothing s.records)
-  where
-    nothing : (t : List MbRecord) → t ++ [] ≡ t
-    nothing t = append-nil t
+more_records ss s = records_last ss s
 
 more_units : (long : Bool) (f : Format) (ss : List Slice) (s : Slice) → units_of long f (ss ++ s ∷ []) ≡ units_of long f ss ++ unit_bytes (still_long long ss) 3 5 (layer_payload f s)
 unfolding units_of
@@ -82,7 +79,7 @@ more_units long f (x ∷ ss) s =
 
 -- the first slice of a picture is behind nothing
 pub none_coded : (c : Coding) (source : Planes) (now : Planes) (records : List MbRecord) → now ≡ blank_planes c.across c.down → SlicesCoded c source 0 now records
-unfolding slices_of slices_built
+unfolding slices_of slices_made
 none_coded c source now records e = record {
   planes = e;
   records_are = ap (λ (n : ℕ). take n records) (ap (λ (n : ℕ). n * c.across) (row_none c.down c.slices) ∙ no_times c.across);

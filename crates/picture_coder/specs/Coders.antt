@@ -1,20 +1,40 @@
 -- What a coder of pictures holds, and what it makes of a job.
-use Rattle.std.specs.Prelude.{ℕ, Bool, List, ◌≡◌, ◌+◌, ◌*◌, ◌/◌}
+use Rattle.std.specs.Prelude.{ℕ, Bool, List, ◌≡◌, ◌*◌}
+use Rattle.spec_basics.specs.Sizes.{in_macroblocks}
 use Rattle.picture_planes.specs.declared.picture.Picture.{Picture}
 use Rattle.picture_planes.specs.Pictures.{SameShapes}
 use Rattle.spec_bits.specs.Bits.{bits_of_bytes}
 use Rattle.spec_film.specs.Films.{Planes}
-use Rattle.spec_slice_layer.specs.Layer.{Slice}
+use Rattle.spec_slice_payload.specs.Layer.{Slice}
 use Rattle.spec_encoding.specs.Coding.{Settled, coded_picture}
 use Rattle.picture_coder.specs.declared.coder.PictureCoder.{PictureCoder}
 use Rattle.picture_coder.specs.Planned.{SlicesPlanned}
 use Rattle.picture_coder.specs.Slices.{units_of}
 use Rattle.picture_coder.specs.Sizes.{HasSizes}
 
+-- macroblocks in a row of its pictures, and rows of them
+abbrev pub mbs_across : PictureCoder → ℕ
+mbs_across c = c.across
+
+abbrev pub mbs_down : PictureCoder → ℕ
+mbs_down c = c.down
+
+-- slices of each picture
+abbrev pub slice_count : PictureCoder → ℕ
+slice_count c = c.slices
+
+-- the most bits of a slice's payload
+abbrev pub payload_room : PictureCoder → ℕ
+payload_room c = c.room
+
+-- the picture that it lends
+abbrev pub lent_picture : PictureCoder → Picture
+lent_picture c = c.picture
+
 -- a coder of pictures of this size
 pub record IsMadeFor (c : PictureCoder) (width height slices : ℕ) : Type 0 where
-  pub across : c.across ≡ (width + 15) / 16
-  pub down : c.down ≡ (height + 15) / 16
+  pub across : c.across ≡ in_macroblocks width
+  pub down : c.down ≡ in_macroblocks height
   pub slices_are : c.slices ≡ slices
   pub sizes : HasSizes width height c.picture
 

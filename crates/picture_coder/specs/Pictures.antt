@@ -5,10 +5,12 @@ use Rattle.picture_planes.specs.declared.picture.Picture.{Picture}
 use Rattle.spec_bits.specs.Bits.{bits_of_bytes}
 use Rattle.spec_bits.specs.Units.{unit_bytes}
 use Rattle.spec_film.specs.Films.{Planes}
-use Rattle.spec_slice_layer.specs.Layer.{Format, Slice, layer_payload}
-use Rattle.spec_built.specs.Inter.{no_sources}
-use Rattle.spec_built.specs.Records.{slice_built}
-use Rattle.spec_encoding.specs.Frames.{blank_planes, slices_built, all_records}
+use Rattle.spec_slice_payload.specs.Layer.{Format, Slice}
+use Rattle.spec_slice_payload.specs.Writing.{layer_payload}
+use Rattle.spec_reconstruction.specs.Inter.{no_sources}
+use Rattle.spec_reconstruction.specs.Records.{slice_built}
+use Rattle.spec_decoder.specs.Frames.{blank_planes}
+use Rattle.spec_encoding.specs.Frames.{slices_built, all_records}
 use Rattle.spec_encoding.specs.Coding.{Settled, first_of, head_of, records_of, slices_of}
 use Rattle.picture_coder.specs.declared.coding.Coding.{Coding}
 use Rattle.picture_coder.specs.Slices.{units_of}

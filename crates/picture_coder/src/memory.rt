@@ -2,7 +2,7 @@
 ghost use Rattle.std.specs.Prelude.{◌≡◌, ◌≤◌, vec_len, IfOk};
 ghost use Rattle.picture_coder.specs.Planned.{AreRows};
 
-use enc_tables::{MbKind, MbRecord, Motion, RowPlan, Vector};
+use enc_tables::{MbKind, MbRecord, RowPlan};
 use std::alloc::{AllocError as OutOfMemory, Global};
 
 /// Plans in which nothing is planned, of `down` rows of `across` macroblocks.
@@ -19,32 +19,9 @@ pub fn blank_plans(alloc: Global, across: u32, down: u32) -> Result<Vec<RowPlan>
     Ok(plans)
 }
 
-fn blank_record() -> MbRecord {
-    let zero = Vector { x: 0, y: 0 };
-    let motion = Motion {
-        refs: [-1, -1],
-        vectors: [zero, zero],
-    };
-    MbRecord {
-        kind: MbKind::Pcm,
-        transform8: false,
-        modes: [0; 16],
-        chroma_mode: 0,
-        motion: [motion; 4],
-        mvd: [zero; 8],
-        luma_cbp: 0,
-        chroma_cbp: 0,
-        qp: 0,
-        luma_dc: [0; 16],
-        luma: [0; 256],
-        chroma_dc: [0; 8],
-        chroma_ac: [0; 120],
-    }
-}
-
 /// Records of which nothing is said.
 pub fn blank_records(alloc: Global, count: u32) -> Result<Vec<MbRecord>, OutOfMemory>
     ensures count { IfOk result (λ records. vec_len records ≡ count) }
 {
-    vec![in alloc; blank_record(); count as usize]
+    vec![in alloc; MbRecord::blank(MbKind::Pcm, 0); count as usize]
 }

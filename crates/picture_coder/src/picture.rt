@@ -5,7 +5,8 @@ ghost use Rattle.picture_planes.specs.Samples.{SameShape, samples_of};
 ghost use Rattle.picture_planes.specs.Pictures.{planes_of, SameShapes};
 ghost use Rattle.bit_strings.specs.BitText.{Appends};
 ghost use Rattle.spec_filter.specs.Pictures.{picture_filtered};
-ghost use Rattle.spec_encoding.specs.Frames.{blank_planes, picture_of};
+ghost use Rattle.spec_decoder.specs.Frames.{blank_planes};
+ghost use Rattle.spec_encoding.specs.Frames.{picture_of};
 ghost use Rattle.picture_coder.specs.Planned.{SlicesPlanned};
 ghost use Rattle.picture_coder.specs.Pictures.{IsCoding, slices_to, units_to};
 
@@ -44,8 +45,8 @@ fn filter(picture: &mut Picture, records: &[MbRecord])
     deblock_picture(picture, records, &[], &[]);
 }
 
-/// Codes the picture by its plans, and appends the units of its slices: the first one has a start code of four bytes where `out` was
-/// empty. The picture is then the one that a decoder shows, filtered across slices.
+/// Codes the picture by its plans, and appends the units of its slices: the first one has a start code of four bytes
+/// where `out` was empty. The picture is then the one that a decoder shows, filtered across slices.
 ///
 /// `Full` comes exactly where the units don't fit the room of `out`, which is then as before.
 pub fn code_picture(

@@ -2,8 +2,8 @@
 ghost use Rattle.std.specs.Prelude.{◌≡◌, ◌≤◌, ◌<◌, ◌+◌, ◌*◌, ◌/◌, ℕ};
 ghost use Rattle.picture_coder.specs.Planned.{row_at};
 
-/// The first row of slice `k` of a picture of so many slices and rows of macroblocks; where `k` is the number of slices, the number of
-/// rows.
+/// The first row of slice `k` of a picture of so many slices and rows of macroblocks; where `k` is the number of
+/// slices, the number of rows.
 pub fn first_row(k: u32, slices: u32, down: u32) -> u32
     requires some { 0 < slices }
     requires slice { k ≤ slices }
@@ -31,7 +31,8 @@ pub fn rows_of(slice: u32, slices: u32, down: u32) -> (u32, u32)
     )
 }
 
-/// The macroblocks of rows, as rows are told: the first one, and the one behind the last. A row has `across` macroblocks.
+/// The macroblocks of rows, as rows are told: the first one, and the one behind the last. A row has `across`
+/// macroblocks.
 pub fn macroblocks_of(rows: (u32, u32), across: u32) -> (usize, usize)
     requires order { rows.0 ≤ rows.1 }
     requires down { rows.1 ≤ 144 }

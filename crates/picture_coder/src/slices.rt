@@ -6,9 +6,10 @@ ghost use Rattle.bit_strings.specs.BitText.{Appends};
 ghost use Rattle.nal_writer.specs.Runs.{Grows};
 ghost use Rattle.spec_bits.specs.Bits.{bits_of_bytes, bytes_of_bits};
 ghost use Rattle.spec_bits.specs.Units.{unit_bytes, EndsWell};
-ghost use Rattle.spec_reading.specs.HeadReaders.{idr_head};
-ghost use Rattle.spec_slice_layer.specs.Layer.{IsIdrHead, layer_bits};
-ghost use Rattle.spec_encoding.specs.Frames.{blank_planes};
+ghost use Rattle.spec_headers.specs.Heads.{idr_head};
+ghost use Rattle.spec_slice_payload.specs.Slices.{IsIdrHead};
+ghost use Rattle.spec_slice_payload.specs.Writing.{layer_bits};
+ghost use Rattle.spec_decoder.specs.Frames.{blank_planes};
 ghost use Rattle.slice_coder.specs.Left.{Leaves};
 ghost use Rattle.picture_coder.specs.Planned.{SlicesPlanned};
 ghost use Rattle.picture_coder.specs.Pictures.{format_for, IsCoding, slice_at, unit_of, SliceCoded, SlicesCoded, units_to};
@@ -16,19 +17,14 @@ ghost use Rattle.picture_coder.specs.Pictures.{format_for, IsCoding, slice_at, u
 use crate::coding::Coding;
 use crate::rows::{macroblocks_of, rows_of};
 use bit_strings::{BitBuf, Full};
-use enc_tables::{MbRecord, RowPlan, SliceKind};
+use enc_tables::{HIGHEST_REF_IDC, MbRecord, RowPlan, SliceKind, UNIT_IDR_SLICE};
 use nal_writer::unit;
 use picture_planes::Picture;
 use slice_coder::code_slice;
-use spec_bits::SliceHead;
-
-// nal_ref_idc and nal_unit_type of the slices (ITU-T H.264, table 7-1).
-const REFERENCE: u8 = 3;
-
-const IDR_SLICE: u8 = 5;
+use spec_headers::SliceHead;
 
 // The header of a slice that begins with row `first`.
-#[tactic(auto, unfolding(spec_reading::specs::HeadReaders::idr_head))]
+#[tactic(auto, unfolding(spec_headers::specs::Heads::idr_head))]
 fn head_for(coding: &Coding, first: u32) -> SliceHead
     requires first { first ≤ 144 }
     requires across { coding.now.across ≤ 256 }
@@ -62,7 +58,7 @@ fn append_unit(out: &mut BitBuf, payload: BitBuf, long: bool) -> (Result<(), Ful
     ensures payload { result.1 ≡ record payload { text = [] } }
 {
     let mut payload = payload;
-    let done = unit(out, REFERENCE, IDR_SLICE, payload.bytes(), long);
+    let done = unit(out, HIGHEST_REF_IDC, UNIT_IDR_SLICE, payload.bytes(), long);
     payload.clear();
     (done, payload)
 }
@@ -138,8 +134,8 @@ fn code_unit(
     append_unit(out, payload, long)
 }
 
-/// Codes all slices, one after another, and appends their units; the first one has a start code of four bytes where `out` was empty.
-/// On `Full` some of the units may be there.
+/// Codes all slices, one after another, and appends their units; the first one has a start code of four bytes where
+/// `out` was empty. On `Full` some of the units may be there.
 pub fn code_slices(
     coding: &Coding,
     source: &Picture,

@@ -4,7 +4,7 @@ use Rattle.std.proofs.lemmas.Grind.{common_steps}
 use Rattle.picture_planes.specs.declared.plane.Plane.{Plane}
 use Rattle.picture_planes.specs.Samples.{row_of, samples_of}
 use Rattle.picture_planes.proofs.SampleLaws.{row_length, part_of_samples, before_end}
-use Rattle.spec_built.specs.Parts.{block_rows}
+use Rattle.spec_reconstruction.specs.Parts.{block_rows}
 
 -- one row more of what was read
 pub row_read : (out part rows : List ℕ) (start n : ℕ) → start + n ≤ length out → length part ≡ n → take start out ≡ rows

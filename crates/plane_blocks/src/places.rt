@@ -1,11 +1,12 @@
 // Which neighbours macroblocks and blocks have.
 ghost use Rattle.std.specs.Prelude.{◌≡◌, ◌≤◌, ◌<◌, ◌+◌, ◌-◌, ◌*◌, ◌/◌, ◌%◌, ◌&&◌, ◌||◌, nat_lt, cond, ℕ};
-ghost use Rattle.spec_intra.specs.Near.{macroblock_avail, block_avail, block_number};
+ghost use Rattle.spec_intra.specs.Near.{macroblock_avail, block_avail};
+ghost use Rattle.spec_basics.specs.Blocks.{block_number};
 
 use spec_intra::Avail;
 
-/// Which neighbours the macroblock in this column and row has (clauses 6.4.8 and 6.4.9). A picture has `width` macroblocks in a
-/// row, and the slice begins with row `first_row`.
+/// Which neighbours the macroblock in this column and row has (clauses 6.4.8 and 6.4.9). A picture has `width`
+/// macroblocks in a row, and the slice begins with row `first_row`.
 pub fn near_macroblock(width: u32, first_row: u32, row: u32, column: u32) -> Avail
     requires column { column < width }
     requires first { first_row ≤ row }
@@ -29,8 +30,8 @@ fn both(a: bool, b: bool) -> bool
     a && b
 }
 
-// Which neighbours the block in this column and row of a macroblock has, where `mb` are the macroblock's. The macroblock has
-// `n` blocks in a row.
+// Which neighbours the block in this column and row of a macroblock has, where `mb` are the macroblock's. The
+// macroblock has `n` blocks in a row.
 #[inline(always)]
 fn near_block(n: u32, mb: &Avail, column: u32, row: u32) -> Avail
     requires few { n ≤ 4 }
@@ -88,7 +89,8 @@ fn number(column: u32, row: u32) -> u32
     8 * (row / 2) + 4 * (column / 2) + 2 * (row % 2) + column % 2
 }
 
-/// Which neighbours a macroblock's 4x4 block in this column and row has (clause 6.4.11.4), where `mb` are the macroblock's.
+/// Which neighbours a macroblock's 4x4 block in this column and row has (clause 6.4.11.4), where `mb` are the
+/// macroblock's.
 pub fn near_block4(mb: &Avail, column: u32, row: u32) -> Avail
     requires column { column < 4 }
     requires row { row < 4 }
@@ -97,7 +99,8 @@ pub fn near_block4(mb: &Avail, column: u32, row: u32) -> Avail
     near_block(4, mb, column, row)
 }
 
-/// Which neighbours a macroblock's 8x8 block in this column and row has (clause 6.4.11.2), where `mb` are the macroblock's.
+/// Which neighbours a macroblock's 8x8 block in this column and row has (clause 6.4.11.2), where `mb` are the
+/// macroblock's.
 pub fn near_block8(mb: &Avail, column: u32, row: u32) -> Avail
     requires column { column < 2 }
     requires row { row < 2 }

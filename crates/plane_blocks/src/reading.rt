@@ -1,7 +1,7 @@
 // Blocks of planes.
 ghost use Rattle.std.specs.Prelude.{◌≡◌, ◌≤◌, ◌<◌, ◌+◌, ◌*◌, length};
 ghost use Rattle.picture_planes.specs.Samples.{samples_of};
-ghost use Rattle.spec_built.specs.Parts.{block_at};
+ghost use Rattle.spec_reconstruction.specs.Parts.{block_at};
 
 use picture_planes::Plane;
 

@@ -3,7 +3,7 @@ use Rattle.std.proofs.Common.{◌≡◌, ℕ, zero, suc, ◌+◌, ◌<◌, ◌�
 use Rattle.std.specs.Prelude.{◌&&◌, nat_le}
 use Rattle.std.proofs.lemmas.Bool.{false≢true}
 use Rattle.std.proofs.lemmas.Bool.Decides.{nat_tests}
-use Rattle.spec_syntax.specs.declared.TheConstants.{SIGNIFICANT8, LAST8}
+use Rattle.enc_tables.specs.declared.significance.TheConstants.{SIGNIFICANT8, LAST8}
 use Rattle.spec_syntax.specs.Levels.{coded_at, significant_at, last_at, first_at, others_at, flags_from, place_in, levels_from}
 
 -- each number of a table is at most the first

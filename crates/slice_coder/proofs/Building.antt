@@ -11,24 +11,25 @@ use Rattle.enc_tables.specs.Kinds.{is_16x16, is_intra, is_pcm}
 use Rattle.enc_tables.specs.Records.{blank_record}
 use Rattle.enc_tables.specs.Steps.{steps}
 use Rattle.spec_film.specs.Films.{Planes}
-use Rattle.spec_bits.specs.declared.heads.SliceHead.{SliceHead}
-use Rattle.spec_reading.specs.HeadReaders.{idr_head}
+use Rattle.spec_headers.specs.declared.heads.SliceHead.{SliceHead}
+use Rattle.spec_headers.specs.Heads.{idr_head}
 use Rattle.spec_partitions.specs.Near.{last_qp, last_has_delta, has_residual}
 use Rattle.spec_macroblock.specs.Records.{IsRecord}
 use Rattle.spec_macroblock.proofs.Following.{delta_follows}
 use Rattle.spec_lists.specs.Lists.{no_lists}
 use Rattle.spec_lists.specs.Colocated.{colocated_at}
-use Rattle.spec_slice_layer.specs.Layer.{Format, Colocated, near_of, AreRecords, IsIdrHead}
-use Rattle.spec_built.specs.declared.Site.{Site}
-use Rattle.spec_built.specs.Inter.{Sources, no_sources}
-use Rattle.spec_built.specs.Records.{site_of, slice_built, macroblock_built, intra_built, intra_record, intra4_record, intra8_record, intra16_record}
-use Rattle.spec_built.specs.Slices.{coded_record, coded_slice, is_8x8}
+use Rattle.spec_slice_payload.specs.Layer.{Format, Colocated, near_of}
+use Rattle.spec_slice_payload.specs.Slices.{AreRecords, IsIdrHead}
+use Rattle.spec_reconstruction.specs.declared.Site.{Site}
+use Rattle.spec_reconstruction.specs.Inter.{Sources, no_sources}
+use Rattle.spec_reconstruction.specs.Records.{site_of, slice_built, macroblock_built, intra_built, intra_record, intra4_record, intra8_record, intra16_record}
+use Rattle.spec_reconstruction.specs.Slices.{coded_record, coded_slice, is_8x8}
 use Rattle.spec_intra.specs.Near.{macroblock_avail}
 use Rattle.std.proofs.lemmas.Nat.{div-add-mod'}
-use Rattle.spec_records.specs.Coded.{PlanesFit, ModesAllowed}
-use Rattle.spec_records.proofs.Allowed.{plans_allowed}
-use Rattle.spec_records.proofs.Plans.{plans_fit, choices_are_coded}
-use Rattle.spec_records.proofs.Whole.{record_qp}
+use Rattle.spec_record_laws.specs.Coded.{PlanesFit, ModesAllowed}
+use Rattle.spec_record_laws.proofs.Allowed.{plans_allowed}
+use Rattle.spec_record_laws.proofs.Plans.{plans_fit, choices_are_coded}
+use Rattle.spec_record_laws.proofs.Whole.{record_qp}
 use Rattle.spec_encoding.proofs.Coded.{Settles, are_coded, length-coded}
 use Rattle.slice_coder.specs.declared.place.Place.{Place}
 use Rattle.slice_coder.specs.Plans.{plan_at, kind_at, records_to}

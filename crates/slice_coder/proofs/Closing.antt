@@ -5,16 +5,16 @@ use Rattle.std.proofs.lemmas.Bool.{false≢true}
 use Rattle.enc_tables.specs.declared.records.CtxState.{CtxState}
 use Rattle.enc_tables.specs.declared.records.MbRecord.{MbRecord}
 use Rattle.bit_strings.specs.BitText.{BitText, Appends}
-use Rattle.spec_bits.specs.declared.heads.SliceHead.{SliceHead}
-use Rattle.spec_bits.specs.Heads.{slice_head_bits}
+use Rattle.spec_headers.specs.declared.heads.SliceHead.{SliceHead}
+use Rattle.spec_headers.specs.HeadFields.{slice_head_bits}
 use Rattle.spec_cabac.specs.Code.{arith_code}
 use Rattle.spec_film.specs.Films.{Planes}
 use Rattle.spec_syntax.specs.declared.Bin.{Bin}
 use Rattle.spec_syntax.specs.Syntax.{at}
 use Rattle.spec_syntax.specs.Elements.{end_of_slice}
-use Rattle.spec_slice.specs.Decoding.{asked}
-use Rattle.spec_slice.specs.Slice.{slice_code}
-use Rattle.spec_slice_layer.specs.Layer.{Format, Slice, layer_bits, string_after, states_of}
+use Rattle.spec_slice_data.specs.Coding.{asked, slice_code}
+use Rattle.spec_slice_payload.specs.Layer.{Format, Slice, states_of}
+use Rattle.spec_slice_payload.specs.Writing.{layer_bits, string_after}
 use Rattle.cabac_coder.specs.State.{CoderState}
 use Rattle.bin_writer.specs.Coding.{coding, Codes}
 use Rattle.slice_coder.specs.declared.place.Place.{Place}

@@ -11,13 +11,14 @@ use Rattle.enc_tables.specs.Choice.{choice, SmallCosts}
 use Rattle.picture_planes.specs.declared.plane.Plane.{Plane}
 use Rattle.picture_planes.specs.declared.stripe.Stripe.{Stripe}
 use Rattle.spec_film.specs.Films.{Planes}
-use Rattle.spec_built.specs.declared.Site.{Site}
-use Rattle.spec_built.specs.Inter.{no_sources}
-use Rattle.spec_built.specs.Records.{site_of, intra_built, macroblock_built}
-use Rattle.spec_built.specs.Slices.{coded_record}
-use Rattle.spec_records.specs.Coded.{ModesFit}
-use Rattle.spec_records.proofs.Plans.{plans_fit}
-use Rattle.intra_coder.specs.Reach.{IsSource, Stands}
+use Rattle.spec_reconstruction.specs.declared.Site.{Site}
+use Rattle.spec_reconstruction.specs.Inter.{no_sources}
+use Rattle.spec_reconstruction.specs.Records.{site_of, intra_built, macroblock_built}
+use Rattle.spec_reconstruction.specs.Slices.{coded_record}
+use Rattle.spec_record_laws.specs.Coded.{ModesFit}
+use Rattle.spec_record_laws.proofs.Plans.{plans_fit}
+use Rattle.residual_coder.specs.Inside.{IsSource}
+use Rattle.intra_coder.specs.Reach.{Stands}
 use Rattle.slice_coder.specs.declared.place.Place.{Place}
 use Rattle.slice_coder.specs.Plans.{plan_at, ArePlanned, HoldsRows}
 use Rattle.slice_coder.proofs.Planned.{row_of, all_full, is_plan, is_small}

@@ -12,8 +12,9 @@ use Rattle.spec_cabac.specs.Code.{Coded, coded_start, step, run, flushed, with_l
 use Rattle.spec_syntax.specs.declared.Bin.{Bin}
 use Rattle.spec_syntax.specs.Syntax.{at}
 use Rattle.spec_syntax.specs.Elements.{end_of_slice}
-use Rattle.spec_slice.specs.Decoding.{asked, after_all}
-use Rattle.spec_slice.proofs.Decoded.{asked_append}
+use Rattle.spec_slice_data.specs.Coding.{asked}
+use Rattle.spec_slice_data.specs.Decoding.{after_all}
+use Rattle.spec_slice_data.proofs.Decoded.{asked_append}
 use Rattle.bit_strings.specs.BitText.{BitText, Appends}
 use Rattle.cabac_coder.specs.State.{CoderState, coded_of, stepped, FullAt}
 use Rattle.bin_writer.specs.Coding.{Coding, coding, is_full_at, bins_step, Codes}

@@ -1,8 +1,9 @@
 -- What is around a macroblock, as the code finds it.
 use Rattle.std.proofs.Common.{◌≡◌, ◌+◌, ◌-◌, ◌%◌, ◌==◌, ◌||◌, nat_lt, false, List, length, get_or, Option, Some, None, if◌then◌else◌, refl}
 use Rattle.enc_tables.specs.declared.records.MbRecord.{MbRecord}
-use Rattle.spec_bits.specs.declared.heads.SliceHead.{SliceHead}
-use Rattle.spec_partitions.specs.Near.{Near, near_in, no_record}
+use Rattle.spec_headers.specs.declared.heads.SliceHead.{SliceHead}
+use Rattle.spec_partitions.specs.Near.{Near, near_in}
+use Rattle.enc_tables.specs.Records.{no_record}
 use Rattle.slice_coder.specs.declared.place.Place.{Place}
 use Rattle.slice_coder.specs.Strings.{near_at, Follows}
 

@@ -5,8 +5,8 @@ use Rattle.enc_tables.specs.declared.records.MbRecord.{MbRecord}
 use Rattle.spec_syntax.specs.declared.Bin.{Bin}
 use Rattle.spec_syntax.specs.Syntax.{at}
 use Rattle.spec_syntax.specs.Elements.{end_of_slice}
-use Rattle.spec_slice.specs.Slice.{strings_of, slice_string}
-use Rattle.spec_slice.proofs.Strings.{strings_none, strings_push}
+use Rattle.spec_slice_data.specs.Coding.{strings_of, slice_string}
+use Rattle.spec_slice_data.proofs.Strings.{strings_none, strings_push}
 use Rattle.cabac_coder.specs.State.{CoderState}
 use Rattle.bin_writer.specs.Coding.{Coding, coding, IsReady, Codes, CodesPlain}
 use Rattle.bin_writer.proofs.Coding.{codes_none, codes_then, codes_plainly}

@@ -1,20 +1,21 @@
 -- The coded slice as a slice of the syntax, and its bits.
 use Rattle.std.proofs.Common.{◌≡◌, ℕ, ◌+◌, ◌-◌, ◌*◌, ◌/◌, ◌<◌, ◌≤◌, Bool, List, ◌++◌, refl, sym, ap, subst, arith, true}
 use Rattle.enc_tables.specs.declared.records.CtxState.{CtxState}
-use Rattle.spec_bits.specs.Allowed.{IsSliceHead, HasLists}
-use Rattle.spec_bits.specs.declared.heads.SliceHead.{SliceHead}
-use Rattle.spec_bits.specs.Heads.{slice_head_bits}
+use Rattle.spec_headers.specs.Allowed.{IsSliceHead, HasLists}
+use Rattle.spec_headers.specs.declared.heads.SliceHead.{SliceHead}
+use Rattle.spec_headers.specs.HeadFields.{slice_head_bits}
 use Rattle.spec_cabac.specs.Code.{arith_code}
 use Rattle.spec_film.specs.Films.{Planes}
-use Rattle.spec_reading.specs.HeadReaders.{idr_head}
+use Rattle.spec_headers.specs.Heads.{idr_head}
 use Rattle.spec_syntax.specs.declared.Bin.{Bin}
-use Rattle.spec_slice.specs.Decoding.{asked}
-use Rattle.spec_slice.specs.Slice.{slice_string}
+use Rattle.spec_slice_data.specs.Coding.{asked, slice_string}
 use Rattle.spec_lists.specs.Lists.{no_lists}
 use Rattle.spec_lists.specs.Colocated.{colocated_at}
-use Rattle.spec_slice_layer.specs.Layer.{Format, Slice, IsIdrHead, IsSlice, layer_bits, string_after, states_of}
-use Rattle.spec_records.specs.Coded.{PlanesFit}
-use Rattle.spec_built.specs.Inter.{no_sources}
+use Rattle.spec_slice_payload.specs.Layer.{Format, Slice, states_of}
+use Rattle.spec_slice_payload.specs.Slices.{IsIdrHead, IsSlice}
+use Rattle.spec_slice_payload.specs.Writing.{layer_bits, string_after}
+use Rattle.spec_record_laws.specs.Coded.{PlanesFit}
+use Rattle.spec_reconstruction.specs.Inter.{no_sources}
 use Rattle.spec_encoding.proofs.Coded.{are_coded}
 use Rattle.slice_coder.specs.declared.place.Place.{Place}
 use Rattle.slice_coder.specs.Plans.{plan_at, kind_at, coded, place_of, format_of, IsWhole}

@@ -5,9 +5,9 @@ use Rattle.picture_planes.specs.Margins.{buffer_width}
 use Rattle.picture_planes.specs.Samples.{row_start, row_of, rows_to, samples_of}
 use Rattle.picture_planes.specs.Pictures.{planes_of}
 use Rattle.picture_planes.specs.declared.stripe.Stripe.{Stripe}
-use Rattle.intra_coder.specs.Stripes.{samples_from, planes_in}
-use Rattle.spec_records.specs.Coded.{AreBytes, PlanesFit}
-use Rattle.spec_records.proofs.Bytes.{none_bytes, zeros_bytes, append_bytes, take_bytes, drop_bytes}
+use Rattle.residual_coder.specs.Stripes.{samples_from, planes_in}
+use Rattle.spec_record_laws.specs.Coded.{AreBytes, PlanesFit}
+use Rattle.spec_record_laws.proofs.Bytes.{none_bytes, zeros_bytes, append_bytes, take_bytes, drop_bytes}
 
 row_bytes : (p : Plane) (y : ℕ) → AreBytes p.bytes.items → AreBytes (row_of p y)
 row_bytes p y h = take_bytes _ (drop (row_start p y) p.bytes.items) (drop_bytes (row_start p y) p.bytes.items h)

@@ -4,13 +4,13 @@ use Rattle.std.proofs.lemmas.List.{take_more_set}
 use Rattle.enc_tables.specs.declared.records.MbRecord.{MbRecord}
 use Rattle.picture_planes.specs.declared.picture.Picture.{Picture}
 use Rattle.spec_film.specs.Films.{Planes}
-use Rattle.spec_bits.specs.declared.heads.SliceHead.{SliceHead}
+use Rattle.spec_headers.specs.declared.heads.SliceHead.{SliceHead}
 use Rattle.spec_macroblock.specs.Records.{IsRecord}
-use Rattle.spec_slice_layer.specs.Layer.{IsIdrHead}
-use Rattle.spec_built.specs.Inter.{no_sources}
-use Rattle.spec_built.specs.Records.{site_of, slice_built, macroblock_built}
-use Rattle.spec_built.specs.Slices.{coded_record}
-use Rattle.spec_records.specs.Coded.{PlanesFit}
+use Rattle.spec_slice_payload.specs.Slices.{IsIdrHead}
+use Rattle.spec_reconstruction.specs.Inter.{no_sources}
+use Rattle.spec_reconstruction.specs.Records.{site_of, slice_built, macroblock_built}
+use Rattle.spec_reconstruction.specs.Slices.{coded_record}
+use Rattle.spec_record_laws.specs.Coded.{PlanesFit}
 use Rattle.cabac_coder.specs.State.{CoderState}
 use Rattle.bin_writer.specs.Coding.{Coding, coding, Codes, CodesPlain}
 use Rattle.slice_coder.specs.declared.place.Place.{Place}

@@ -10,11 +10,11 @@ use Rattle.enc_tables.specs.Choice.{choice, SmallCosts}
 use Rattle.picture_planes.specs.declared.picture.Picture.{Picture}
 use Rattle.picture_planes.specs.declared.stripe.Stripe.{Stripe}
 use Rattle.spec_film.specs.Films.{Planes}
-use Rattle.spec_bits.specs.declared.heads.SliceHead.{SliceHead}
-use Rattle.spec_built.specs.Inter.{no_sources}
-use Rattle.spec_built.specs.Slices.{coded_slice}
+use Rattle.spec_headers.specs.declared.heads.SliceHead.{SliceHead}
+use Rattle.spec_reconstruction.specs.Inter.{no_sources}
+use Rattle.spec_reconstruction.specs.Slices.{coded_slice}
 use Rattle.spec_choice.specs.IntraPlans.{intra_plan, intra_plans}
-use Rattle.spec_slice_layer.specs.Layer.{Format, Slice}
+use Rattle.spec_slice_payload.specs.Layer.{Format, Slice}
 use Rattle.slice_coder.specs.declared.place.Place.{Place}
 
 -- the plan of the macroblock at an address of the picture, and its kind

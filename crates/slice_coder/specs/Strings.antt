@@ -1,13 +1,13 @@
 -- The bins of the first macroblocks of a slice.
 use Rattle.std.specs.Prelude.{◌≡◌, ℕ, ◌==◌, false, if◌then◌else◌, List, [], ◌∷◌, ◌++◌, length}
 use Rattle.enc_tables.specs.declared.records.MbRecord.{MbRecord}
-use Rattle.spec_bits.specs.declared.heads.SliceHead.{SliceHead}
+use Rattle.spec_headers.specs.declared.heads.SliceHead.{SliceHead}
 use Rattle.spec_partitions.specs.Near.{Near, SliceFacts, near_in, last_qp, last_has_delta}
 use Rattle.spec_macroblock.specs.Strings.{macroblock_string}
 use Rattle.spec_syntax.specs.declared.Bin.{Bin}
 use Rattle.spec_syntax.specs.Syntax.{at}
 use Rattle.spec_syntax.specs.Elements.{end_of_slice}
-use Rattle.spec_slice.specs.Slice.{strings_of}
+use Rattle.spec_slice_data.specs.Coding.{strings_of}
 use Rattle.bin_writer.specs.Coding.{Coding, Codes}
 use Rattle.slice_coder.specs.declared.place.Place.{Place}
 

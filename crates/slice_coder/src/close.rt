@@ -6,7 +6,7 @@ ghost use Rattle.spec_cabac.specs.Code.{arith_code};
 ghost use Rattle.spec_syntax.specs.declared.Bin.{Bin};
 ghost use Rattle.spec_syntax.specs.Syntax.{at};
 ghost use Rattle.spec_syntax.specs.Elements.{end_of_slice};
-ghost use Rattle.spec_slice.specs.Decoding.{asked};
+ghost use Rattle.spec_slice_data.specs.Coding.{asked};
 ghost use Rattle.bin_writer.specs.Coding.{coding, Codes};
 ghost use Rattle.slice_coder.specs.Left.{Leaves, started_at};
 
@@ -21,8 +21,8 @@ fn emptied(mut buf: BitBuf) -> (Result<(), Full>, BitBuf)
     (Err(Full), buf)
 }
 
-/// Ends the code, and gives back the buffer: with the bits of the code, whatever bins led here, and zeros to the byte, or without
-/// any bits where these don't fit.
+/// Ends the code, and gives back the buffer: with the bits of the code, whatever bins led here, and zeros to the
+/// byte, or without any bits where these don't fit.
 pub fn close(mut coder: Coder) -> (Result<(), Full>, BitBuf)
     requires { coder.ended ≡ false }
     ensures { (buf : BitText) (states : List CtxState) (last : List CtxState) (bins : List Bin) → Codes (coding (started_at buf) states) bins (coding coder last) → Leaves result.0 buf.room buf.made (buf.text ++ arith_code (asked states (bins ++ at end_of_slice true ∷ []))) result.1 }

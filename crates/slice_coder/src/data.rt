@@ -1,13 +1,13 @@
 // The macroblocks of a slice, one after another.
 ghost use Rattle.std.specs.Prelude.{◌≡◌, ◌≤◌, ◌<◌, ◌+◌, ◌*◌, ◌/◌, length};
 ghost use Rattle.picture_planes.specs.Pictures.{SameShapes, planes_of};
-ghost use Rattle.spec_reading.specs.HeadReaders.{idr_head};
-ghost use Rattle.spec_slice_layer.specs.Layer.{IsIdrHead};
-ghost use Rattle.spec_records.specs.Coded.{PlanesFit};
-ghost use Rattle.spec_built.specs.Inter.{no_sources};
-ghost use Rattle.spec_built.specs.Records.{slice_built};
+ghost use Rattle.spec_headers.specs.Heads.{idr_head};
+ghost use Rattle.spec_slice_payload.specs.Slices.{IsIdrHead};
+ghost use Rattle.spec_record_laws.specs.Coded.{PlanesFit};
+ghost use Rattle.spec_reconstruction.specs.Inter.{no_sources};
+ghost use Rattle.spec_reconstruction.specs.Records.{slice_built};
 ghost use Rattle.bin_writer.specs.Coding.{seen, IsReady};
-ghost use Rattle.intra_coder.specs.Stripes.{planes_in};
+ghost use Rattle.residual_coder.specs.Stripes.{planes_in};
 ghost use Rattle.slice_coder.specs.Plans.{ArePlanned, HoldsRows, IsWhole, records_to};
 ghost use Rattle.slice_coder.specs.Strings.{Opened, string_at};
 
@@ -18,10 +18,10 @@ use cabac_coder::Coder;
 use cabac_contexts::Contexts;
 use enc_tables::{MbRecord, RowPlan};
 use picture_planes::{Picture, Stripe};
-use spec_bits::SliceHead;
+use spec_headers::SliceHead;
 
-/// Codes the macroblocks of a slice, up to the last end_of_slice_flag. From the first bin that doesn't fit on only records and samples
-/// are made.
+/// Codes the macroblocks of a slice, up to the last end_of_slice_flag. From the first bin that doesn't fit on only
+/// records and samples are made.
 pub fn code_macroblocks(
     coder: &mut Coder,
     contexts: &mut Contexts,

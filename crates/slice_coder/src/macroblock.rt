@@ -4,21 +4,21 @@ ghost use Rattle.std.specs.List.{All};
 ghost use Rattle.enc_tables.specs.declared.records.MbPlan.{MbPlan};
 ghost use Rattle.enc_tables.specs.declared.plans.RowPlan.{RowPlan};
 ghost use Rattle.picture_planes.specs.Pictures.{SameShapes, planes_of};
-ghost use Rattle.spec_built.specs.Inter.{no_sources};
-ghost use Rattle.spec_built.specs.Records.{intra_built, macroblock_built, site_of};
-ghost use Rattle.spec_built.specs.Slices.{coded_record, is_8x8};
-ghost use Rattle.spec_records.specs.Coded.{ModesFit};
-ghost use Rattle.intra_coder.specs.Reach.{IsSource, Stands};
-ghost use Rattle.intra_coder.specs.Stripes.{planes_in};
+ghost use Rattle.spec_reconstruction.specs.Inter.{no_sources};
+ghost use Rattle.spec_reconstruction.specs.Records.{intra_built, macroblock_built, site_of};
+ghost use Rattle.spec_reconstruction.specs.Slices.{coded_record, is_8x8};
+ghost use Rattle.spec_record_laws.specs.Coded.{ModesFit};
+ghost use Rattle.residual_coder.specs.Inside.{IsSource};
+ghost use Rattle.intra_coder.specs.Reach.{Stands};
+ghost use Rattle.residual_coder.specs.Stripes.{planes_in};
 ghost use Rattle.slice_coder.specs.Plans.{ArePlanned, HoldsRows, IsWhole, kind_at, plan_at};
 
 use crate::place::Place;
-use cabac_contexts::is_16x16;
 use enc_tables::{MbKind, MbPlan, MbRecord, RowPlan, SliceKind, choose};
 use intra_coder::{code_intra4, code_intra8, code_intra16, site_of, sites_stand};
 use picture_planes::{Picture, Stripe};
-use spec_bits::SliceHead;
-use spec_built::Site;
+use spec_headers::SliceHead;
+use spec_reconstruction::Site;
 
 fn is_8x8(kind: MbKind) -> bool
     ensures { result ≡ is_8x8 kind }
@@ -52,7 +52,7 @@ fn code_by_plan(
     ensures record { (across : ℕ) → stripe.old.picture.now.y.width ≡ 16 * across → result ≡ coded_record across site.now kind plan.now (planes_of source.now) (planes_in stripe.old) }
     ensures planes { planes_in stripe.new ≡ intra_built stripe.old.picture.now.y.width site.now result (planes_in stripe.old) }
 {
-    if is_16x16(kind) {
+    if kind.is_16x16() {
         return code_intra16(stripe, source, site, plan.mode16, plan.chroma_mode);
     }
     if is_8x8(kind) {

@@ -2,16 +2,17 @@
 ghost use Rattle.std.specs.Prelude.{◌≡◌, ◌≤◌, ◌<◌, ◌+◌, ◌-◌, ◌%◌, ◌==◌, ◌||◌, length, get_or, None, Some, if◌then◌else◌, nat_lt};
 ghost use Rattle.enc_tables.specs.declared.records.MbRecord.{MbRecord};
 ghost use Rattle.spec_contexts.specs.Near.{pointed};
-ghost use Rattle.spec_partitions.specs.Near.{no_record};
+ghost use Rattle.enc_tables.specs.Records.{no_record};
 ghost use Rattle.mb_syntax.specs.Around.{near_of};
 ghost use Rattle.slice_coder.specs.Strings.{near_at, Follows};
 
 use crate::place::Place;
 use enc_tables::MbRecord;
 use mb_syntax::Around;
-use spec_bits::SliceHead;
+use spec_headers::SliceHead;
 
-// The macroblock at the left of the next one of a slice that begins with macroblock `first`, where `across` stand in a row.
+// The macroblock at the left of the next one of a slice that begins with macroblock `first`, where `across` stand in
+// a row.
 fn left_of<'a>(before: &'a [MbRecord], across: u32, first: u32) -> Option<&'a MbRecord>
     requires across { 0 < across }
     requires first { first < 65536 }

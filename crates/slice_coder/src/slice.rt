@@ -3,30 +3,34 @@ ghost use Rattle.std.specs.Prelude.{◌≡◌, ◌≤◌, ◌<◌, ◌-◌, ◌*
 ghost use Rattle.picture_planes.specs.Pictures.{SameShapes, planes_of};
 ghost use Rattle.spec_lists.specs.Lists.{no_lists};
 ghost use Rattle.spec_lists.specs.Colocated.{colocated_at};
-ghost use Rattle.spec_slice_layer.specs.Layer.{IsIdrHead, IsSlice, layer_bits, layer_payload, read_layer};
-ghost use Rattle.spec_built.specs.Inter.{no_sources};
-ghost use Rattle.spec_built.specs.Records.{slice_built};
-ghost use Rattle.intra_coder.specs.Stripes.{planes_in};
+ghost use Rattle.spec_slice_payload.specs.Slices.{IsIdrHead, IsSlice};
+ghost use Rattle.spec_slice_payload.specs.Writing.{layer_bits, layer_payload};
+ghost use Rattle.spec_slice_payload.specs.Reading.{read_layer};
+ghost use Rattle.spec_reconstruction.specs.Inter.{no_sources};
+ghost use Rattle.spec_reconstruction.specs.Records.{slice_built};
+ghost use Rattle.residual_coder.specs.Stripes.{planes_in};
 ghost use Rattle.slice_coder.specs.Plans.{ArePlanned, HoldsRows, IsWhole, place_of, format_of, records_to, coded};
 ghost use Rattle.slice_coder.specs.Left.{Leaves};
 
 use crate::close::close;
 use crate::data::code_macroblocks;
 use crate::place::Place;
-use crate::samples::{samples_fit, stripe_fits};
+use crate::samples::{lemma_samples_fit, lemma_stripe_fits};
 use bit_strings::{BitBuf, Full};
 use cabac_coder::Coder;
 use cabac_contexts::Contexts;
 use enc_tables::{MbRecord, RowPlan};
 use param_sets::write_slice_head;
 use picture_planes::{Picture, Stripe};
-use spec_bits::SliceHead;
+use spec_headers::SliceHead;
 
-/// Codes a slice of an IDR picture: the rows of macroblocks from `rows.0` to `rows.1` - 1 of the source, by their plans. `stripe` has these
-/// rows at least, and gets their samples as a decoder builds them before the loop filter; all its other samples stay. `records` gets the
-/// macroblocks' records, and `buf`, which is empty, the payload of the slice's unit with zeros to the byte (ITU-T H.264, clause 7.3.2.8).
+/// Codes a slice of an IDR picture: the rows of macroblocks from `rows.0` to `rows.1` - 1 of the source, by their
+/// plans. `stripe` has these rows at least, and gets their samples as a decoder builds them before the loop filter;
+/// all its other samples stay. `records` gets the macroblocks' records, and `buf`, which is empty, the payload of the
+/// slice's unit with zeros to the byte (ITU-T H.264, clause 7.3.2.8).
 ///
-/// `Full` comes exactly where the payload passes the buffer's room. The buffer is then empty, and samples and records aren't told.
+/// `Full` comes exactly where the payload passes the buffer's room. The buffer is then empty, and samples and records
+/// aren't told.
 pub fn code_slice(
     stripe: &mut Stripe<'_>,
     source: &Picture,
@@ -58,8 +62,8 @@ pub fn code_slice(
     ensures slice { IsSlice (format_of source.now t8x8) (colocated_at no_lists) true (coded (place_of source.now rows.0 t8x8) head.now (planes_of source.now) (planes_in stripe.old) (length records.old)) }
     ensures read_back { read_layer (format_of source.now t8x8) true [] (layer_payload (format_of source.now t8x8) (coded (place_of source.now rows.0 t8x8) head.now (planes_of source.now) (planes_in stripe.old) (length records.old))) ≡ Some (coded (place_of source.now rows.0 t8x8) head.now (planes_of source.now) (planes_in stripe.old) (length records.old)) }
 {
-    samples_fit(source);
-    stripe_fits(stripe);
+    lemma_samples_fit(source);
+    lemma_stripe_fits(stripe);
     let place = Place {
         across: source.y.width / 16,
         row: rows.0,

@@ -1,7 +1,7 @@
 // Slices of small pictures: one as another encoder codes it, and one that is coded in two ways.
 ghost use Rattle.std.specs.Prelude.{◌≡◌, ◌≤◌, ◌<◌, ◌+◌, ◌*◌, true, length, IfOk};
 ghost use Rattle.picture_planes.specs.Pictures.{planes_of};
-ghost use Rattle.spec_slice_layer.specs.Layer.{IsIdrHead};
+ghost use Rattle.spec_slice_payload.specs.Slices.{IsIdrHead};
 ghost use Rattle.slice_coder.specs.Plans.{ArePlanned, place_of};
 
 use crate::code_slice;
@@ -9,7 +9,7 @@ use bit_strings::BitBuf;
 use enc_tables::{MbKind, MbRecord, Motion, RowPlan, SliceKind, Vector};
 use mode_choice::plan_row;
 use picture_planes::Picture;
-use spec_bits::SliceHead;
+use spec_headers::SliceHead;
 use std::alloc::{AllocError as OutOfMemory, Global};
 use std::test::Fail;
 

@@ -11,7 +11,7 @@ use cabac_coder::Coder;
 use cabac_contexts::Contexts;
 use enc_tables::MbRecord;
 use mb_syntax::code_mb;
-use spec_bits::SliceHead;
+use spec_headers::SliceHead;
 
 /// A macroblock behind those before it in its slice.
 pub fn write_behind(

@@ -1,7 +1,7 @@
 -- Laws of lists of fields.
 use Rattle.std.proofs.Common.{◌≡◌, List, [], ◌∷◌, ◌++◌, refl, append-nil}
 use Rattle.std.proofs.lemmas.List.Concat.{flat_map-append}
-use Rattle.spec_bits.specs.declared.heads.Field.{Field}
+use Rattle.spec_bits.specs.declared.fields.Field.{Field}
 use Rattle.spec_bits.specs.Fields.{field_bits, fields_bits}
 
 pub fields_bits-none : fields_bits [] ≡ []

@@ -1,6 +1,6 @@
-//! Bits, fields, units and heads of a stream, as definitions, and the types that they speak of.
+//! Bits, fields and units of a stream, as definitions, and the type of a field.
 #![tactic(auto)]
 
-mod heads;
+mod fields;
 
-pub use heads::{Field, SeqHead, SliceHead, Timing};
+pub use fields::Field;

@@ -1,4 +1,4 @@
 pub mod Numbers
 pub mod Holds
 pub mod Least
-mod Rows
+mod Examples

@@ -2,4 +2,4 @@ pub mod Odd
 pub mod Ranges
 pub mod Replies
 pub mod Law
-pub mod Rows
+pub mod Examples

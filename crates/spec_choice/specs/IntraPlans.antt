@@ -5,14 +5,15 @@ use Rattle.std.specs.List.{range_with_len}
 use Rattle.enc_tables.specs.declared.records.MbPlan.{MbPlan}
 use Rattle.enc_tables.specs.Plans.{blank_part}
 use Rattle.spec_intra.specs.Block.{line}
-use Rattle.spec_intra.specs.Slopes.{sum_below}
+use Rattle.spec_basics.specs.Sums.{sum_below, sad}
 use Rattle.spec_film.specs.Films.{Planes}
 use Rattle.spec_intra.specs.declared.Avail.{Avail}
 use Rattle.spec_intra.specs.Predictions.{predicted4, predicted8, predicted16, predicted_chroma, is_allowed}
-use Rattle.spec_intra.specs.Near.{macroblock_avail, block_avail, block_column, block_row, plane_sample, neighbours4, neighbours8, neighbours16, neighbours_chroma}
-use Rattle.spec_built.specs.Parts.{block_at}
+use Rattle.spec_intra.specs.Near.{macroblock_avail, block_avail, plane_sample, neighbours4, neighbours8, neighbours16, neighbours_chroma}
+use Rattle.spec_basics.specs.Blocks.{block_column, block_row}
+use Rattle.spec_reconstruction.specs.Parts.{block_at}
 use Rattle.spec_choice.specs.declared.ModeCost.{ModeCost}
-use Rattle.spec_choice.specs.Modes.{sad, best_mode}
+use Rattle.spec_choice.specs.Modes.{best_mode}
 
 -- the best mode of the block at (x, y) of a plane with `wide` samples in a row, where `avail` are its neighbours: of a 4x4 and of
 -- an 8x8 luma block, and of a luma macroblock

@@ -1,14 +1,8 @@
 -- The best mode of a block.
-use Rattle.std.specs.Prelude.{ℕ, Bool, List, ◌^◌, map, slice_index, length}
-use Rattle.std.specs.Int.{abs_diff}
+use Rattle.std.specs.Prelude.{ℕ, Bool, List, ◌^◌, map}
 use Rattle.std.specs.List.{range_with_len, filter}
-use Rattle.spec_intra.specs.Slopes.{sum_below}
 use Rattle.enc_tables.specs.Choice.{first_least}
 use Rattle.spec_choice.specs.declared.ModeCost.{ModeCost}
-
--- the sum of absolute differences of two blocks
-unfoldable pub sad : List ℕ → List ℕ → ℕ
-sad xs ys = sum_below (λ k. abs_diff (slice_index xs k) (slice_index ys k)) (length xs)
 
 abbrev pub cost_of_mode : ModeCost → ℕ
 cost_of_mode m = m.cost

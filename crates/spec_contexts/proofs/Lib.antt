@@ -1,2 +1,2 @@
 pub mod Known
-mod Rows
+mod Examples

@@ -2,11 +2,10 @@
 use Rattle.std.specs.Prelude.{ℕ, zero, suc, ◌+◌, ◌*◌, ◌/◌, ◌%◌, ◌^◌, ◌==◌, Bool, true, false, not, ◌&&◌, ◌||◌, nat_lt, nat_le, Option, Some, None, if◌then◌else◌, ℤ, pos, negsuc, nat_abs, List, [], ◌∷◌, slice_index_or, slice_range}
 use Rattle.std.specs.List.{list_any}
 use Rattle.enc_tables.specs.declared.records.MbRecord.{MbRecord}
-use Rattle.enc_tables.specs.declared.records.MbKind.{MbKind}
 use Rattle.enc_tables.specs.declared.records.Motion.{Motion}
 use Rattle.enc_tables.specs.declared.records.Vector.{Vector}
-use Rattle.enc_tables.specs.Records.{zero_vector, no_motion}
-use Rattle.enc_tables.specs.Kinds.{is_pcm, is_nxn, is_16x16, is_intra, is_skipped, is_direct}
+use Rattle.enc_tables.specs.Records.{zero_vector, no_motion, is_used}
+use Rattle.enc_tables.specs.Kinds.{is_pcm, is_nxn, is_16x16, is_intra, is_skipped, is_direct, has_motion}
 use Rattle.spec_contexts.specs.Near.{left_holder2, above_holder2, left_block2, above_block2, left_holder4, above_holder4, left_block4, above_block4}
 
 -- ---- condTermFlagA and condTermFlagB together
@@ -80,10 +79,6 @@ inc_qp_delta last_delta = weight last_delta
 
 -- ---- ref_idx (clause 9.3.3.1.1.6): available, inter, neither skipped nor direct, and its 8x8 block k uses the list with an index above 0
 
--- 8x8 block k has motion that is written
-abbrev pub has_motion : MbKind → Bool
-has_motion kind = not (is_intra kind) && not (is_skipped kind) && not (is_direct kind)
-
 -- the reference index of 8x8 block k in a list
 abbrev pub ref_of : MbRecord → ℕ → ℕ → ℤ
 ref_of mb list k = slice_index_or (slice_index_or mb.motion k no_motion).refs list (pos 0)
@@ -102,10 +97,6 @@ inc_ref mb left above list k =
     doubled (ref_flag list (left_block2 k) (left_holder2 mb left k)) (ref_flag list (above_block2 k) (above_holder2 mb above k))
 
 -- ---- mvd (clause 9.3.3.1.1.7)
-
-abbrev pub is_used : ℤ → Bool
-is_used (pos n) = true
-is_used (negsuc n) = false
 
 -- a component of the written difference of 8x8 block k
 abbrev pub mvd_of : MbRecord → ℕ → ℕ → Bool → ℤ

@@ -1,6 +1,7 @@
 -- The macroblocks and blocks at the left and above (ITU-T H.264, clauses 6.4.11 and 6.4.12). None is a macroblock that isn't available.
 use Rattle.std.specs.Prelude.{ℕ, ◌+◌, ◌*◌, ◌/◌, ◌%◌, ◌==◌, Option, Some, None, if◌then◌else◌}
 use Rattle.std.specs.Borrow.{Bor}
+use Rattle.spec_basics.specs.Blocks.{block_column, block_row, block_number}
 use Rattle.enc_tables.specs.declared.records.MbRecord.{MbRecord}
 
 -- the macroblock behind a reference
@@ -26,24 +27,14 @@ above_block2 k = 2 * ((k / 2 + 1) % 2) + k % 2
 
 -- ---- 4x4 luma blocks: four in each of four rows, numbered within 8x8 blocks (clause 6.4.3)
 
-abbrev pub column4 : ℕ → ℕ
-column4 b = 2 * (b / 4 % 2) + b % 2
-
-abbrev pub row4 : ℕ → ℕ
-row4 b = 2 * (b / 8) + b / 2 % 2
-
--- the number of the block in this row and column (clause 6.4.13.1)
-abbrev pub block4 : ℕ → ℕ → ℕ
-block4 row column = 8 * (row / 2) + 4 * (column / 2) + 2 * (row % 2) + column % 2
-
 abbrev pub left_holder4 : MbRecord → Option MbRecord → ℕ → Option MbRecord
-left_holder4 mb left b = if column4 b == 0 then left else Some mb
+left_holder4 mb left b = if block_column b == 0 then left else Some mb
 
 abbrev pub above_holder4 : MbRecord → Option MbRecord → ℕ → Option MbRecord
-above_holder4 mb above b = if row4 b == 0 then above else Some mb
+above_holder4 mb above b = if block_row b == 0 then above else Some mb
 
 unfoldable pub left_block4 : ℕ → ℕ
-left_block4 b = block4 (row4 b) ((column4 b + 3) % 4)
+left_block4 b = block_number ((block_column b + 3) % 4) (block_row b)
 
 unfoldable pub above_block4 : ℕ → ℕ
-above_block4 b = block4 ((row4 b + 3) % 4) (column4 b)
+above_block4 b = block_number (block_column b) ((block_row b + 3) % 4)

@@ -13,27 +13,27 @@ use Rattle.enc_tables.specs.Steps.{steps}
 use Rattle.spec_film.specs.declared.FilmHead.{FilmHead}
 use Rattle.spec_film.specs.Films.{Planes, AllowedHead, film_of}
 use Rattle.spec_bits.specs.Bits.{IsByte}
-use Rattle.spec_bits.specs.Heads.{sequence_payload, picture_payload}
+use Rattle.spec_headers.specs.HeadFields.{sequence_payload, picture_payload}
 use Rattle.spec_bits.specs.Units.{unit_bytes}
 use Rattle.spec_stream.specs.Pictures.{IsPicture}
-use Rattle.spec_stream.specs.Samples.{plane_from, picture_from, cropped}
+use Rattle.spec_stream.specs.Samples.{plane_from, picture_from}
+use Rattle.spec_decoder.specs.Output.{cropped}
 use Rattle.spec_stream.specs.Stored.{macroblocks_of, mbs_across, mbs_down, stored_sequence, stored_slice_head, stored_picture, stored_pictures, stored_stream}
 use Rattle.spec_stream.proofs.PcmLaws.{IsMacroblock}
 use Rattle.spec_stream.proofs.PictureLaws.{macroblocks_are, length-macroblocks_of, across_some, down_some, has_planes, picture_back}
 use Rattle.spec_stream.proofs.DecodeLaws.{sequence_allowed, stored_payload, slice_back, slice_ends}
 use Rattle.spec_stream.proofs.FilmPictures.{film_has}
 use Rattle.spec_filter.proofs.Pcm.{pcm_stays}
-use Rattle.spec_pictures.specs.Decode.{shown_planes, decode_by}
+use Rattle.spec_decoder.specs.Pictures.{shown_planes, decode_by}
 use Rattle.spec_pictures.specs.Coded.{CodedSlice, IsCodedSlice, AllCover, picture_units, stream_of, shown_of}
 use Rattle.spec_pictures.proofs.Idr.{idr_streams_decode}
-use Rattle.spec_encoding.specs.Frames.{blank_planes, lists_by, sources_by}
+use Rattle.spec_decoder.specs.Frames.{blank_planes, lists_by, sources_by, samples_put, macroblock_made, slice_made, slices_made, all_records, picture_made, frames, decode}
 use Rattle.spec_lists.specs.Heads.{is_other}
 use Rattle.spec_lists.specs.Lists.{pictures_of}
-use Rattle.spec_built.specs.Inter.{Sources}
-use Rattle.spec_decoding.specs.Macroblocks.{Macroblock, pcm, coded, record_of, Slice, of_samples, read_slice}
-use Rattle.spec_decoding.specs.Frames.{samples_put, macroblock_made, slice_made, slices_made, all_records, picture_made, frames, decode}
+use Rattle.spec_reconstruction.specs.Inter.{Sources}
+use Rattle.spec_decoder.specs.Macroblocks.{Macroblock, pcm, coded, record_of, Slice, of_samples, read_slice}
 use Rattle.spec_decoding.proofs.Encoded.{alternate}
-use Rattle.spec_decoding.proofs.Steps.{steps_same, steps_part}
+use Rattle.spec_decoder.proofs.Steps.{steps_same, steps_part}
 use Rattle.spec_decoding.proofs.Placing.{block_put, blocks_make}
 
 -- ---- the planes that I_PCM macroblocks make

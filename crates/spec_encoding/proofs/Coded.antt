@@ -8,26 +8,29 @@ use Rattle.enc_tables.specs.declared.records.MbKind.{MbKind}
 use Rattle.enc_tables.specs.declared.records.MbPlan.{MbPlan}
 use Rattle.enc_tables.specs.declared.records.MbRecord.{MbRecord}
 use Rattle.spec_bits.specs.Bits.{IsByte}
-use Rattle.spec_bits.specs.declared.heads.SliceHead.{SliceHead}
+use Rattle.spec_headers.specs.declared.heads.SliceHead.{SliceHead}
 use Rattle.spec_film.specs.declared.FilmHead.{FilmHead}
 use Rattle.spec_film.specs.Films.{Planes}
 use Rattle.spec_stream.specs.Pictures.{IsPicture}
 use Rattle.spec_partitions.specs.Near.{last_qp, near_in}
 use Rattle.spec_macroblock.proofs.Following.{qp_follows}
-use Rattle.spec_slice_layer.specs.Layer.{Format, Colocated, Slice, near_of, view_of, IsNext, AreRecords, NeighboursHaveModes}
-use Rattle.spec_slice_layer.proofs.Growing.{one_more, neighbours}
-use Rattle.spec_built.specs.declared.Site.{Site}
-use Rattle.spec_built.specs.Records.{site_of, slice_built}
-use Rattle.spec_built.specs.Slices.{coded_record, coded_slice}
+use Rattle.spec_slice_payload.specs.Layer.{Format, Colocated, Slice, near_of, view_of}
+use Rattle.spec_slice_payload.specs.Slices.{IsNext, AreRecords, NeighboursHaveModes}
+use Rattle.spec_slice_payload.proofs.Growing.{one_more, neighbours}
+use Rattle.spec_reconstruction.specs.declared.Site.{Site}
+use Rattle.spec_reconstruction.specs.Records.{site_of, slice_built}
+use Rattle.spec_reconstruction.specs.Slices.{coded_record, coded_slice}
 use Rattle.spec_intra.specs.Near.{macroblock_avail}
-use Rattle.spec_encoding.proofs.Allowed.{coded_allowed}
-use Rattle.spec_records.specs.Coded.{AreBytes, PlanesFit, ModesFit, ModesAllowed, IsCodedKind, Stands}
-use Rattle.spec_records.proofs.Bytes.{zeros_bytes}
-use Rattle.spec_records.proofs.Built.{slice_bytes}
-use Rattle.spec_records.proofs.Whole.{records_are_coded, record_qp, coded_moves}
-use Rattle.spec_encoding.specs.Frames.{blank_planes, sources_by, slices_built}
+use Rattle.spec_record_laws.proofs.AllowedModes.{coded_allowed}
+use Rattle.spec_record_laws.specs.Coded.{AreBytes, PlanesFit, ModesFit, ModesAllowed, IsCodedKind, Stands}
+use Rattle.spec_record_laws.proofs.Bytes.{zeros_bytes}
+use Rattle.spec_record_laws.proofs.Built.{slice_bytes}
+use Rattle.spec_record_laws.proofs.Whole.{records_are_coded, record_qp, coded_moves}
+use Rattle.spec_decoder.specs.Frames.{blank_planes, sources_by, slices_made}
+use Rattle.spec_decoder.proofs.OfRecords.{built_first}
+use Rattle.spec_encoding.specs.Frames.{slices_built}
 use Rattle.spec_lists.specs.References.{Reference}
-use Rattle.spec_built.specs.Inter.{Sources}
+use Rattle.spec_reconstruction.specs.Inter.{Sources}
 
 -- ---- samples
 
@@ -46,9 +49,11 @@ unfolding blank_planes
 blank_fits across down = record { luma = zeros_bytes _; cb = zeros_bytes _; cr = zeros_bytes _ }
 
 pub built_fits : (across : ℕ) (held : List Reference) (slices : List Slice) (p : Planes) → PlanesFit p → PlanesFit (slices_built across held slices p)
-unfolding slices_built
+unfolding slices_made
 built_fits across held [] p h = h
-built_fits across held (s ∷ ss) p h = built_fits across held ss _ (slice_bytes across (sources_by s.head held) s.head.first_mb s.records p h)
+built_fits across held (s ∷ ss) p h =
+    subst (λ (q : Planes). PlanesFit q) (sym (built_first across held s ss p))
+    (built_fits across held ss (slice_built across (sources_by s.head held) s.head.first_mb s.records p) (slice_bytes across (sources_by s.head held) s.head.first_mb s.records p h))
 
 -- ---- records
 

@@ -1,25 +1,29 @@
 -- The slices of a coded picture are slices of the syntax, and cover its macroblocks in order.
 use Rattle.std.proofs.Common.{◌≡◌, ◌≤◌, ◌<◌, ◌+◌, ◌-◌, ◌*◌, ◌/◌, ◌%◌, ◌^◌, ◌++◌, ℕ, zero, suc, Bool, true, List, [], ◌∷◌, length, map, refl, sym, ap, subst, ◌∙◌, arith, lit<}
-use Rattle.std.proofs.lemmas.List.{map-append}
+use Rattle.std.specs.Prelude.{option_map}
+use Rattle.std.proofs.lemmas.List.{map-append, length-map}
 use Rattle.std.proofs.lemmas.Nat.{mul-le, div-add-mod'}
 use Rattle.spec_film.specs.Films.{Planes}
-use Rattle.spec_bits.specs.declared.heads.SeqHead.{SeqHead}
-use Rattle.spec_bits.specs.declared.heads.SliceHead.{SliceHead}
-use Rattle.spec_reading.specs.HeadReaders.{idr_head}
-use Rattle.spec_stream.specs.Decode.{across_of, down_of}
-use Rattle.spec_slice_layer.specs.Layer.{Format, Colocated, Slice, IsIdrHead, IsSlice}
-use Rattle.spec_slice_layer.proofs.Layers.{idr_layer_back}
+use Rattle.spec_headers.specs.declared.heads.SeqHead.{SeqHead}
+use Rattle.spec_headers.specs.declared.heads.SliceHead.{SliceHead}
+use Rattle.spec_headers.specs.Heads.{idr_head}
+use Rattle.spec_decoder.specs.Sets.{across_of, down_of}
+use Rattle.spec_slice_payload.specs.Layer.{Format, Colocated, Slice}
+use Rattle.spec_slice_payload.specs.Slices.{IsIdrHead, IsSlice}
+use Rattle.spec_slice_payload.proofs.Layers.{idr_layer_back}
 use Rattle.spec_lists.specs.Heads.{common}
 use Rattle.spec_lists.specs.Lists.{no_lists}
 use Rattle.spec_lists.specs.Colocated.{colocated_at}
-use Rattle.spec_built.specs.Inter.{no_sources}
-use Rattle.spec_pictures.specs.Decode.{Reading}
+use Rattle.spec_reconstruction.specs.Inter.{no_sources}
+use Rattle.spec_decoder.specs.Pictures.{Reading}
 use Rattle.spec_pictures.specs.Coded.{CodedSlice, IsCodedSlice, Covers}
 use Rattle.spec_intra.specs.Near.{macroblock_avail}
-use Rattle.spec_records.specs.Coded.{PlanesFit, ModesAllowed}
-use Rattle.spec_records.proofs.Plans.{plans_fit, choices_are_coded}
-use Rattle.spec_records.proofs.Allowed.{plans_allowed}
-use Rattle.spec_encoding.specs.Frames.{format_of, read_coded, blank_planes, slices_built, frames}
+use Rattle.spec_record_laws.specs.Coded.{PlanesFit, ModesAllowed}
+use Rattle.spec_record_laws.proofs.Plans.{plans_fit, choices_are_coded}
+use Rattle.spec_record_laws.proofs.Allowed.{plans_allowed}
+use Rattle.spec_decoder.specs.Macroblocks.{Slice as Read, coded, format_of, of_records, read_slice}
+use Rattle.spec_encoding.specs.Frames.{slices_built}
+use Rattle.spec_decoder.specs.Frames.{blank_planes, frames}
 use Rattle.spec_encoding.specs.Coding.{Settled, first_row, first_of, count_of, plan_at, kind_at, records_of, head_of, slices_of, coded_picture}
 use Rattle.spec_encoding.specs.Encoding.{with_payload}
 use Rattle.spec_encoding.proofs.Numbers.{row_inside, row_none, row_last, row_next, behind, some_more}
@@ -133,14 +137,14 @@ lead_of c number = idr_head 0 0 (number % 2) 0 c.qp true
 
 is_coded : (q : SeqHead) (c : Settled) (number : ℕ) (source : Planes) (k : ℕ) (p : Planes) → IsSettled q c → k < c.slices → PlanesFit source → PlanesFit p
     → IsCodedSlice frames q (true, c.t8x8) (lead_of c number) (first_of c k) (with_payload (format_of q c.t8x8) (slice_at c number source k p))
-unfolding read_coded idr_head common
+unfolding read_slice idr_head common
 is_coded q c number source k p s inside g h =
     let fits : IsSlice (format_of q c.t8x8) nowhere true (slice_at c number source k p) = subst (λ (f : Format). IsSlice f nowhere true (slice_at c number source k p)) (same_format q c s) (is_slice q c number source k p s inside g h) in
     record {
-      reads = idr_layer_back (format_of q c.t8x8) [] (slice_at c number source k p) fits;
+      reads = ap (λ o. option_map of_records o) (idr_layer_back (format_of q c.t8x8) [] (slice_at c number source k p) fits);
       ends = payload_ends (format_of q c.t8x8) (slice_at c number source k p);
       first = refl;
-      some = fits.some;
+      some = subst (λ (n : ℕ). 0 < n) (sym (length-map (slice_at c number source k p).records coded)) fits.some;
       agrees = refl;
       kind = refl;
       idr = refl;
@@ -160,11 +164,12 @@ reaches q c number source (suc k) s inside g =
     let p : Planes = slices_built c.across [] before (blank_planes c.across c.down) in
     let fits : PlanesFit p = built_fits c.across [] before _ (blank_fits c.across c.down) in
     let f : Format = format_of q c.t8x8 in
-    let x : CodedSlice Slice = with_payload f (slice_at c number source k p) in
+    let x : CodedSlice Read = with_payload f (slice_at c number source k p) in
     let at : k + 1 ≡ suc k = omega arith in
-    let end : first_of c k + length (records_of c source k p) ≡ first_of c (suc k) = ap (λ (n : ℕ). first_of c k + n) (count_is c source k p) ∙ next_first q c k s ∙ ap (λ (n : ℕ). first_of c n) at in
+    let end : first_of c k + length (map coded (records_of c source k p)) ≡ first_of c (suc k) =
+    ap (λ (n : ℕ). first_of c k + n) (length-map (records_of c source k p) coded ∙ count_is c source k p) ∙ next_first q c k s ∙ ap (λ (n : ℕ). first_of c n) at in
     subst (λ (n : ℕ). Reaches frames q (true, c.t8x8) (lead_of c number) 0 (map (with_payload f) (before ++ slice_at c number source k p ∷ [])) n) end
-    (subst (λ (cs : List (CodedSlice Slice)). Reaches frames q (true, c.t8x8) (lead_of c number) 0 cs (first_of c k + length (records_of c source k p))) (sym (map-append (with_payload f) before (slice_at c number source k p ∷ [])))
+    (subst (λ (cs : List (CodedSlice Read)). Reaches frames q (true, c.t8x8) (lead_of c number) 0 cs (first_of c k + length (map coded (records_of c source k p)))) (sym (map-append (with_payload f) before (slice_at c number source k p ∷ [])))
     (one_more frames q (true, c.t8x8) (lead_of c number) 0 (map (with_payload f) before) (first_of c k) x (reaches q c number source k s (omega arith) g) (is_coded q c number source k p s (omega arith) g fits)))
 
 pub picture_covers : (q : SeqHead) (c : Settled) (number : ℕ) (source : Planes) → IsSettled q c → PlanesFit source → Covers frames q (true, c.t8x8) (lead_of c number) 0 (map (with_payload (format_of q c.t8x8)) (coded_picture c number source))

@@ -1,3 +1,3 @@
 pub mod Kept
 pub mod Pcm
-mod Rows
+mod Examples

@@ -4,6 +4,7 @@ use Rattle.std.specs.Int.{abs_diff}
 use Rattle.std.proofs.lemmas.Bool.{cases_lt}
 use Rattle.std.proofs.lemmas.List.Elements.{All-get_or}
 use Rattle.std.proofs.lemmas.List.{get_or_past}
+use Rattle.enc_tables.specs.Records.{blank_record, no_record}
 use Rattle.enc_tables.specs.Steps.{steps}
 use Rattle.enc_tables.specs.declared.records.MbRecord.{MbRecord}
 use Rattle.enc_tables.specs.Kinds.{is_pcm}
@@ -17,7 +18,7 @@ use Rattle.spec_filter.specs.Lines.{is_filtered}
 use Rattle.spec_filter.specs.Strengths.{filter_qp, filter_index, rule_at}
 use Rattle.spec_filter.specs.Edges.{line_at, line_filtered, part_filtered, edge_filtered}
 use Rattle.spec_filter.specs.Macroblocks.{indices, edges_between, luma_vertical, luma_horizontal, chroma_vertical, chroma_horizontal, luma_macroblock, chroma_macroblock}
-use Rattle.spec_filter.specs.Pictures.{record_at, no_record, edges_of, luma_filtered, chroma_filtered, picture_filtered, rows_of}
+use Rattle.spec_filter.specs.Pictures.{record_at, edges_of, luma_filtered, chroma_filtered, picture_filtered, rows_of}
 use Rattle.spec_filter.proofs.Kept.{line_left, steps_left}
 
 none_near : (a : Bool) (b : Bool) (n t : ℕ) → t ≡ 0 → (nat_lt n t && a && b) ≡ false
@@ -76,6 +77,7 @@ pcm_indices chroma left above mb l a m = record { left = pcm_index chroma left m
 
 module _ (records : List MbRecord) (all : All (λ r. is_pcm r.kind ≡ true) records) where
   pcm_at : (m : ℕ) → is_pcm (record_at records m).kind ≡ true
+  unfolding blank_record
   pcm_at m = elim (cases_lt m (length records)) [
     | inl lt ↦ All-get_or (λ r. is_pcm r.kind ≡ true) records m no_record lt all
     | inr le ↦ ap (λ (r : MbRecord). is_pcm r.kind) (get_or_past records m no_record le)

@@ -1,16 +1,16 @@
 -- What becomes of a line of samples across an edge (ITU-T H.264, clause 8.7.2).
 use Rattle.std.specs.Prelude.{ℕ, Bool, ◌+◌, ◌*◌, ◌/◌, ◌&&◌, not, nat_lt, cond, ℤ, pos, ◌+ℤ◌, ◌-ℤ◌, ◌*ℤ◌}
-use Rattle.std.specs.Int.{int_shr, abs_diff, int_min, int_max}
-use Rattle.enc_tables.specs.Samples.{clip1}
+use Rattle.std.specs.Int.{int_shr, abs_diff}
+use Rattle.spec_basics.specs.Clip.{clip3, clip1}
 use Rattle.spec_filter.specs.declared.SampleLine.{SampleLine}
 use Rattle.spec_filter.specs.declared.EdgeRule.{EdgeRule}
 
--- Clip3 between -t and t (clause 5.7)
-abbrev pub clip3 : ℕ → ℤ → ℤ
-clip3 t v = int_max (pos 0 -ℤ pos t) (int_min v (pos t))
+-- the nearest number from -t to t
+abbrev pub limited : ℕ → ℤ → ℤ
+limited t v = clip3 (pos 0 -ℤ pos t) (pos t) v
 
-abbrev pub digit : Bool → ℕ
-digit b = cond b 1 0
+abbrev pub one_where : Bool → ℕ
+one_where b = cond b 1 0
 
 -- filterSamplesFlag, where bS isn't 0 (8-468)
 unfoldable pub is_filtered : EdgeRule → SampleLine → Bool
@@ -22,17 +22,17 @@ is_filtered r l =
 -- Δ: how far the two samples at the edge move towards each other
 unfoldable pub step_at : ℕ → ℕ → ℕ → ℕ → ℕ → ℤ
 step_at tc p1 p0 q0 q1 =
-    clip3 tc (int_shr (pos 4 *ℤ (pos q0 -ℤ pos p0) +ℤ (pos p1 -ℤ pos q1) +ℤ pos 4) 3)
+    limited tc (int_shr (pos 4 *ℤ (pos q0 -ℤ pos p0) +ℤ (pos p1 -ℤ pos q1) +ℤ pos 4) 3)
 
 -- the second sample of a side, where it moves
 unfoldable pub second : ℕ → ℕ → ℕ → ℕ → ℕ → ℕ
-second t p2 p1 p0 q0 = clip1 (pos p1 +ℤ clip3 t (int_shr (pos (p2 + (p0 + q0 + 1) / 2) -ℤ pos (2 * p1)) 1))
+second t p2 p1 p0 q0 = clip1 (pos p1 +ℤ limited t (int_shr (pos (p2 + (p0 + q0 + 1) / 2) -ℤ pos (2 * p1)) 1))
 
 unfoldable pub weak : EdgeRule → SampleLine → SampleLine
 weak r l =
     let near_p = nat_lt (abs_diff l.p2 l.p0) r.beta in
     let near_q = nat_lt (abs_diff l.q2 l.q0) r.beta in
-    let tc = cond r.chroma (r.tc0 + 1) (r.tc0 + digit near_p + digit near_q) in
+    let tc = cond r.chroma (r.tc0 + 1) (r.tc0 + one_where near_p + one_where near_q) in
     let step = step_at tc l.p1 l.p0 l.q0 l.q1 in
     record l {
       p0 = clip1 (pos l.p0 +ℤ step);

@@ -1,30 +1,13 @@
 -- The filter over whole pictures (ITU-T H.264, clause 8.7): macroblock after macroblock in the order of their addresses, across slices;
 -- luma and chroma each for itself.
-use Rattle.std.specs.Prelude.{ℕ, false, ◌-◌, ◌/◌, ◌%◌, List, [], length, slice_index_or, ℤ}
+use Rattle.std.specs.Prelude.{ℕ, ◌-◌, ◌/◌, ◌%◌, List, [], length, slice_index_or, ℤ}
+use Rattle.enc_tables.specs.Records.{no_record}
 use Rattle.enc_tables.specs.Steps.{steps}
 use Rattle.enc_tables.specs.declared.records.MbRecord.{MbRecord}
-use Rattle.enc_tables.specs.declared.records.MbKind.TheVariants as kinds
 use Rattle.spec_film.specs.Films.{Planes}
 use Rattle.spec_filter.specs.declared.MbEdges.{MbEdges}
 use Rattle.spec_filter.specs.declared.Layout.{Layout}
 use Rattle.spec_filter.specs.Macroblocks.{edges_between, luma_macroblock, chroma_macroblock}
-
-abbrev pub no_record : MbRecord
-no_record = record {
-  kind = kinds.Pcm;
-  transform8 = false;
-  modes = [];
-  chroma_mode = 0;
-  motion = [];
-  mvd = [];
-  luma_cbp = 0;
-  chroma_cbp = 0;
-  qp = 0;
-  luma_dc = [];
-  luma = [];
-  chroma_dc = [];
-  chroma_ac = [];
-}
 
 abbrev pub record_at : List MbRecord → ℕ → MbRecord
 record_at records m = slice_index_or records m no_record

@@ -10,14 +10,14 @@ use Rattle.enc_tables.specs.declared.filter.TheConstants.{FILTER_ALPHA, FILTER_B
 use Rattle.enc_tables.specs.declared.transform.TheConstants.{CHROMA_QP}
 use Rattle.enc_tables.specs.Kinds.{is_pcm, is_intra}
 use Rattle.enc_tables.specs.Records.{zero_vector}
-use Rattle.spec_contexts.specs.Near.{block4}
+use Rattle.spec_basics.specs.Blocks.{block_number}
 use Rattle.spec_contexts.specs.Increments.{some_level}
 use Rattle.spec_filter.specs.declared.EdgeRule.{EdgeRule}
 
 -- whether the transform block with the 4x4 block of this row and column has a level that isn't 0
 unfoldable pub is_coded : MbRecord → ℕ → ℕ → Bool
 is_coded mb row column =
-    let b = block4 row column in
+    let b = block_number column row in
     some_level (cond mb.transform8 (slice_range mb.luma (64 * (b / 4)) (64 * (b / 4) + 64)) (slice_range mb.luma (16 * b) (16 * b + 16)))
 
 abbrev pub still : Motion
@@ -25,7 +25,7 @@ still = record { refs = []; vectors = [] }
 
 -- the motion of the 8x8 block with the 4x4 block of this row and column
 abbrev pub motion_at : MbRecord → ℕ → ℕ → Motion
-motion_at mb row column = slice_index_or mb.motion (block4 row column / 4) still
+motion_at mb row column = slice_index_or mb.motion (block_number column row / 4) still
 
 -- the picture that a reference index of a list means; none where the list isn't used
 abbrev pub picture_at : List ℤ → ℤ → Option ℤ

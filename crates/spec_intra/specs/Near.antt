@@ -1,5 +1,6 @@
 -- Which neighbours a macroblock and its blocks have, and the samples that they are.
-use Rattle.std.specs.Prelude.{ℕ, Bool, not, List, ◌++◌, ◌+◌, ◌-◌, ◌*◌, ◌/◌, ◌%◌, ◌==◌, ◌&&◌, ◌||◌, nat_lt, nat_le, cond, replicate, slice_index}
+use Rattle.std.specs.Prelude.{ℕ, Bool, not, List, ◌++◌, ◌+◌, ◌-◌, ◌*◌, ◌%◌, ◌==◌, ◌&&◌, ◌||◌, nat_lt, nat_le, cond, replicate, slice_index}
+use Rattle.spec_basics.specs.Blocks.{block_number}
 use Rattle.spec_intra.specs.declared.Avail.{Avail}
 use Rattle.spec_intra.specs.declared.Nb4.{Nb4}
 use Rattle.spec_intra.specs.declared.Nb8.{Nb8}
@@ -18,16 +19,6 @@ macroblock_avail width first address = record {
 }
 
 -- BLOCKS of a macroblock, which has n in a row: 4 of 4x4, 2 of 8x8, 1 of 16x16. They are numbered in decoding order.
-
--- the column and the row of a block (clauses 6.4.3 and 6.4.5), and its number (clauses 6.4.13.1 and 6.4.13.3)
-abbrev pub block_column : ℕ → ℕ
-block_column b = 2 * (b / 4 % 2) + b % 2
-
-abbrev pub block_row : ℕ → ℕ
-block_row b = 2 * (b / 8) + b / 2 % 2
-
-abbrev pub block_number : ℕ → ℕ → ℕ
-block_number column row = 8 * (row / 2) + 4 * (column / 2) + 2 * (row % 2) + column % 2
 
 -- the block in this column and row, where `mb` are the macroblock's neighbours. A block of the same macroblock is available where
 -- it precedes in decoding order (clause 6.4.11.4)

@@ -1,12 +1,8 @@
 -- The modes that lay a plane through the neighbours (clauses 8.3.3.4 and 8.3.4.4).
-use Rattle.std.specs.Prelude.{ℕ, zero, suc, List, ◌+◌, ◌-◌, ◌*◌, slice_index, ℤ, pos, ◌+ℤ◌, ◌-ℤ◌, ◌*ℤ◌}
+use Rattle.std.specs.Prelude.{ℕ, List, ◌+◌, ◌-◌, ◌*◌, slice_index, ℤ, pos, ◌+ℤ◌, ◌-ℤ◌, ◌*ℤ◌}
 use Rattle.std.specs.Int.{int_shr}
-use Rattle.enc_tables.specs.Samples.{clip1}
-
--- f 0 + f 1 + .. + f (n - 1)
-abbrev pub sum_below : (ℕ → ℕ) → ℕ → ℕ
-sum_below f zero = 0
-sum_below f (suc n) = sum_below f n + f n
+use Rattle.spec_basics.specs.Clip.{clip1}
+use Rattle.spec_basics.specs.Sums.{sum_below}
 
 -- H and V: how a line of 2 * h + 1 samples, the corner first, rises about its place h
 unfoldable pub tilt : ℕ → List ℕ → ℤ

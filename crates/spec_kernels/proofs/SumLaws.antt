@@ -1,7 +1,8 @@
 -- Sums over blocks: equal where the samples are, and how they are put together of parts.
 use Rattle.std.proofs.Common.{◌≡◌, ℕ, zero, suc, ◌+◌, ◌*◌, ◌<◌, ◌≤◌, refl, sym, ap, ◌∙◌, arith, add-one}
 use Rattle.std.specs.Int.{abs_diff}
-use Rattle.spec_kernels.specs.Sums.{sum_below, block_sum, block_difference, shifted, sum_apart, BoundBelow, BoundAdds}
+use Rattle.spec_basics.specs.Sums.{sum_below}
+use Rattle.spec_kernels.specs.Sums.{block_sum, block_difference, shifted, sum_apart, BoundBelow, BoundAdds}
 
 pub sum-zero : (f : ℕ → ℕ) → sum_below f 0 ≡ 0
 unfolding sum_below

@@ -1,13 +1,9 @@
 -- Sums and differences of rows and blocks of samples, and the taps of the half-sample filter.
-use Rattle.std.specs.Prelude.{ℕ, ℤ, zero, suc, List, sum, slice_index, slice_index_or, ◌+◌, ◌*◌, ◌<◌, ◌≤◌, ◌≡◌, pos, ◌-ℤ◌}
+use Rattle.std.specs.Prelude.{ℕ, ℤ, List, slice_index, slice_index_or, ◌+◌, ◌*◌, ◌<◌, ◌≤◌, ◌≡◌, pos, ◌-ℤ◌}
 use Rattle.std.specs.Int.{abs_diff}
-use Rattle.std.specs.Simd.Lanes.{zip2}
+use Rattle.spec_basics.specs.Sums.{sum_below}
 
 -- ROWS
-
--- the sum of absolute differences of two rows, place by place
-abbrev pub sad : List ℕ → List ℕ → ℕ
-sad xs ys = sum (zip2 abs_diff xs ys)
 
 -- the filter taps 1, -5, 20, 20, -5, 1 over six samples (ITU-T H.264, clause 8.4.2.2.1)
 abbrev pub tap_of : ℕ → ℕ → ℕ → ℕ → ℕ → ℕ → ℤ
@@ -22,11 +18,6 @@ abbrev pub TapsOf : List ℕ → List ℤ → ℕ → Type 0
 TapsOf xs ys n = (i : ℕ) → i < n → slice_index_or ys i (pos 0) ≡ tap_at xs i
 
 -- BLOCKS: samples as a function of column and row
-
--- f 0 + .. + f (n - 1)
-unfoldable pub sum_below : (ℕ → ℕ) → ℕ → ℕ
-sum_below f zero = 0
-sum_below f (suc n) = sum_below f n + f n
 
 -- the sum of the samples of the first w columns and h rows
 unfoldable pub block_sum : (ℕ → ℕ → ℕ) → ℕ → ℕ → ℕ

@@ -5,11 +5,11 @@ use Rattle.std.specs.Option.{option_map}
 use Rattle.std.specs.List.{AllByRecursion, find, slice_get}
 use Rattle.std.proofs.lemmas.Bool.Decides.{nat_tests}
 use Rattle.enc_tables.specs.declared.records.SliceKind.TheVariants.{P}
-use Rattle.spec_bits.specs.declared.heads.SliceHead.{SliceHead}
+use Rattle.spec_headers.specs.declared.heads.SliceHead.{SliceHead}
 use Rattle.spec_lists.specs.References.{Reference}
 use Rattle.spec_lists.specs.Orders.{Falling}
 use Rattle.spec_lists.specs.Lists.{Lists, number_distance, is_so_far, in_front, modified, cut, lists_of}
-use Rattle.spec_lists.specs.Reordering.{difference, first_least, command_for, moved_for}
+use Rattle.spec_lists.specs.Reordering.{difference, first_least_place, command_for, moved_for}
 use Rattle.spec_lists.proofs.Sorted.{plain_distance, p_list, cut_all, by_parts, parts_with}
 
 -- a reference that has so many numbers between is found
@@ -65,4 +65,4 @@ by_place n d held k false small low e = by_entry n d held k (slice_get held k) s
 pub command_found : (n d : ℕ) (source : List ℕ) (held : List Reference) → n < 65536 → AllByRecursion (λ r. r.frame_num < n) held → moved_for n source held ≡ Some d → Found (is_so_far n (d + 1)) held
 unfolding moved_for
 command_found n d source held small low e =
-    let k : ℕ = first_least (map (λ r. difference source r.planes.luma) held) in by_place n d held k (k == 0) small low e
+    let k : ℕ = first_least_place (map (λ r. difference source r.planes.luma) held) in by_place n d held k (k == 0) small low e

@@ -8,7 +8,7 @@ use Rattle.std.proofs.lemmas.Grind.{common_steps}
 use Rattle.std.proofs.Math.Nat.{add-mul-mod_self_right, mod-eq_of_lt}
 use Rattle.enc_tables.specs.declared.records.SliceKind.{SliceKind}
 use Rattle.enc_tables.specs.declared.records.SliceKind.TheVariants.{P, B}
-use Rattle.spec_bits.specs.declared.heads.SliceHead.{SliceHead}
+use Rattle.spec_headers.specs.declared.heads.SliceHead.{SliceHead}
 use Rattle.spec_lists.specs.References.{Reference}
 use Rattle.spec_lists.specs.Orders.{Rising, Falling}
 use Rattle.spec_lists.specs.Lists.{Lists, nearer_first, nearest_first, number_distance, by_number, shown_before, shown_behind, exchanged, other_way, initial0, initial1, cut, modified, lists_of}

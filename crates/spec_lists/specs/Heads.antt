@@ -3,9 +3,9 @@ use Rattle.std.specs.Prelude.{ℕ, ◌+◌, ◌%◌, ◌==◌, ◌&&◌, nat_lt,
 use Rattle.std.specs.Cmp.Lexicographic.{pointwise}
 use Rattle.enc_tables.specs.declared.records.SliceKind.{SliceKind}
 use Rattle.enc_tables.specs.declared.records.SliceKind.TheVariants.{I, P, B}
-use Rattle.spec_bits.specs.declared.heads.SliceHead.{SliceHead}
+use Rattle.spec_headers.specs.declared.heads.SliceHead.{SliceHead}
 use Rattle.spec_bits.specs.Bits.{digit}
-use Rattle.spec_bits.specs.Heads.{kind_number}
+use Rattle.spec_headers.specs.Heads.{kind_number}
 use Rattle.spec_lists.specs.References.{Reference}
 
 -- whether later pictures may refer to pictures of this kind: here to all but B pictures

@@ -5,7 +5,7 @@ use Rattle.std.specs.List.{filter, find}
 use Rattle.enc_tables.specs.declared.records.SliceKind.{SliceKind}
 use Rattle.enc_tables.specs.declared.records.SliceKind.TheVariants.{I, P, B}
 use Rattle.enc_tables.specs.declared.records.Motion.{Motion}
-use Rattle.spec_bits.specs.declared.heads.SliceHead.{SliceHead}
+use Rattle.spec_headers.specs.declared.heads.SliceHead.{SliceHead}
 use Rattle.spec_lists.specs.References.{Reference}
 
 pub record Lists : Type 0 where

@@ -5,7 +5,7 @@
 ghost use Rattle.std.specs.Prelude.{◌≡◌, ◌+◌, ◌<◌, ◌≤◌, ℕ, List, [], ◌∷◌, length, Some, None};
 ghost use Rattle.std.specs.List.{AllByRecursion, find};
 ghost use Rattle.enc_tables.specs.declared.SliceKind.TheVariants.{P, B};
-ghost use Rattle.spec_bits.specs.declared.SliceHead.{SliceHead};
+ghost use Rattle.spec_headers.specs.declared.SliceHead.{SliceHead};
 ghost use Rattle.spec_lists.specs.References.{Reference};
 ghost use Rattle.spec_lists.specs.Orders.{Rising, Falling};
 ghost use Rattle.spec_lists.specs.Lists.{nearest_first, is_so_far, in_front, lists_of};

@@ -4,17 +4,17 @@ use Rattle.std.specs.Prelude.{◌==◌, nat_le, ℤ}
 use Rattle.enc_tables.specs.declared.records.MbKind.{MbKind}
 use Rattle.enc_tables.specs.declared.records.MbRecord.{MbRecord}
 use Rattle.enc_tables.specs.declared.records.SliceKind.{SliceKind}
-use Rattle.enc_tables.specs.Kinds.{is_nxn, is_16x16, is_intra, is_skipped}
+use Rattle.enc_tables.specs.Kinds.{is_nxn, is_16x16, is_intra, is_skipped, has_motion, is_pcm}
 use Rattle.spec_syntax.specs.Blocks.{block_string}
-use Rattle.spec_contexts.specs.Increments.{weight, plain, doubled, bit_of, has_motion, inc_skip, inc_type_i, inc_type_b, inc_transform, inc_chroma_mode, inc_luma_cbp, inc_chroma_cbp, inc_qp_delta, inc_luma_dc, inc_luma, inc_chroma_dc, inc_chroma_ac, inc_coded}
+use Rattle.spec_contexts.specs.Increments.{weight, plain, doubled, bit_of, inc_skip, inc_type_i, inc_type_b, inc_transform, inc_chroma_mode, inc_luma_cbp, inc_chroma_cbp, inc_qp_delta, inc_luma_dc, inc_luma, inc_chroma_dc, inc_chroma_ac, inc_coded}
 use Rattle.spec_syntax.specs.declared.ListUse.{ListUse}
 use Rattle.spec_syntax.specs.Syntax.{flag_string}
 use Rattle.spec_syntax.specs.Sequences.{string_where}
-use Rattle.spec_syntax.specs.Elements.{IntraType, mode_flag, NxN, Pcm, Whole, is_whole, is_pcm, intra_type_of, intra_type_string, mode_rem_string, chroma_mode_string, luma_pattern_string, inc_of, chroma_pattern_string, transform_flag, qp_delta_string, delta_at, chroma_mode_at, chroma_pattern_at}
+use Rattle.spec_syntax.specs.Elements.{IntraType, mode_flag, NxN, Pcm, Whole, intra_type_of, intra_type_string, mode_rem_string, chroma_mode_string, luma_pattern_string, inc_of, chroma_pattern_string, transform_flag, qp_delta_string, delta_at, chroma_mode_at, chroma_pattern_at}
 use Rattle.spec_syntax.specs.Numbers.{low_first}
 use Rattle.spec_syntax.specs.Inter.{has_inter, skip_at, type_string, p_type_of, p_type_by, b_type_of, b_type_by, block_use}
-use Rattle.spec_slice.specs.Decoding.{GoesOn}
-use Rattle.spec_slice.proofs.Decoded.{goes_on_append}
+use Rattle.spec_slice_data.specs.Coding.{GoesOn}
+use Rattle.spec_slice_data.proofs.Decoded.{goes_on_append}
 use Rattle.spec_partitions.specs.Near.{Near, has_pattern, can_have_8x8, has_residual}
 use Rattle.spec_partitions.specs.Inter.{is_four, sub_types_string}
 use Rattle.spec_partitions.specs.Parts.{parts_string}
@@ -119,7 +119,7 @@ read_b MbKind.B8x8 u v w t h = tt
 read_b _ u v w t h = h
 
 pub goes_type : (near : Near) (mb : MbRecord) (s : SliceKind) → near.kind ≡ s → IsRecord near mb → GoesOn (type_string s (inc_type s near) mb)
-goes_type near mb s e h = go s (is_read (is_whole mb.kind) (is_pcm mb.kind) (get_or mb.modes 0 0) mb.chroma_cbp (not (mb.luma_cbp == 0)) h.chroma_cbp_fits (not_pcm near.kind mb.kind h.in_slice))
+goes_type near mb s e h = go s (is_read (is_16x16 mb.kind) (is_pcm mb.kind) (get_or mb.modes 0 0) mb.chroma_cbp (not (mb.luma_cbp == 0)) h.chroma_cbp_fits (not_pcm near.kind mb.kind h.in_slice))
   where
     go : (s : SliceKind) → IsRead (intra_type_of mb) → GoesOn (type_string s (inc_type s near) mb)
     go SliceKind.I r = goes_i (inc_type_i near.left near.above) (intra_type_of mb) (type_inc near.left near.above) r

@@ -6,14 +6,14 @@ use Rattle.enc_tables.specs.declared.records.MbRecord.{MbRecord}
 use Rattle.enc_tables.specs.declared.records.Motion.{Motion}
 use Rattle.enc_tables.specs.declared.records.Vector.{Vector}
 use Rattle.enc_tables.specs.declared.records.SliceKind.{SliceKind}
-use Rattle.enc_tables.specs.Kinds.{is_16x16, is_skipped}
-use Rattle.enc_tables.specs.Records.{blank_record, zero_vector, no_motion}
-use Rattle.spec_contexts.specs.Increments.{has_motion, is_used, ref_of, inc_skip, inc_type_i, inc_type_b}
+use Rattle.enc_tables.specs.Kinds.{is_16x16, is_skipped, has_motion, is_pcm}
+use Rattle.enc_tables.specs.Records.{blank_record, zero_vector, no_motion, is_used}
+use Rattle.spec_contexts.specs.Increments.{ref_of, inc_skip, inc_type_i, inc_type_b}
 use Rattle.spec_syntax.specs.declared.Bin.{Bin}
 use Rattle.spec_syntax.specs.declared.ListUse.{ListUse}
 use Rattle.spec_syntax.specs.Syntax.{Syntax, Reads, done, nothing, flag, flag_string, ◌>>=◌}
 use Rattle.spec_syntax.specs.Sequences.{where_present, string_where}
-use Rattle.spec_syntax.specs.Elements.{IntraType, NxN, Pcm, Whole, is_whole, is_pcm, intra_type_string}
+use Rattle.spec_syntax.specs.Elements.{IntraType, NxN, Pcm, Whole, intra_type_string}
 use Rattle.spec_syntax.specs.Inter.{has_inter, skip_at, PType, p_type_string, p_type_by, BType, b_type_string, b_type_by, block_use, use_of, use_from, sub_type_p, sub_type, type_string}
 use Rattle.spec_syntax.proofs.Walks.{reads_then, reads_flag, reads_done}
 use Rattle.spec_syntax.proofs.Blocks.{reads_to}
@@ -102,7 +102,7 @@ record Four (ms : List Motion) : Type 0 where
   same : ms ≡ a ∷ b ∷ c ∷ d ∷ []
 
 UseIs : List Motion → ℕ → Type 0
-UseIs ms k = use_of (get_or ms k (let m : Motion = record { refs = []; vectors = [] } in m)) ≡ use_from (is_used (slice_index_or (slice_index_or ms k no_motion).refs 0 (pos 0))) (is_used (slice_index_or (slice_index_or ms k no_motion).refs 1 (pos 0)))
+UseIs ms k = use_of (get_or ms k no_motion) ≡ use_from (is_used (slice_index_or (slice_index_or ms k no_motion).refs 0 (pos 0))) (is_used (slice_index_or (slice_index_or ms k no_motion).refs 1 (pos 0)))
 
 use_at : (a b c d : Motion) (k : ℕ) → k < 4 → UseIs (a ∷ b ∷ c ∷ d ∷ []) k
 unfolding UseIs
@@ -138,7 +138,7 @@ subs_b mb = reads_by_part (sub_part SliceKind.B) (sub_part_string SliceKind.B mb
 
 -- the type of an intra macroblock of this kind
 abbrev intra_in : MbRecord → MbKind → IntraType
-intra_in mb k = cond (is_whole k) (Whole (get_or mb.modes 0 0) mb.chroma_cbp (not (mb.luma_cbp == 0))) (cond (is_pcm k) Pcm NxN)
+intra_in mb k = cond (is_16x16 k) (Whole (get_or mb.modes 0 0) mb.chroma_cbp (not (mb.luma_cbp == 0))) (cond (is_pcm k) Pcm NxN)
 
 abbrev string_in : SliceKind → Near → MbRecord → MbKind → List Bin
 string_in SliceKind.I near mb k = intra_type_string (inc_type_i near.left near.above) (intra_in mb k)

@@ -2,9 +2,9 @@
 use Rattle.std.specs.Prelude.{◌≡◌, ℕ, ◌+◌, ◌*◌, ◌/◌, ◌<◌, ◌≤◌, ◌==◌, Bool, true, false, cond, not, List, length, replicate, get_or, slice_range, Option, Some, None, ℤ, pos}
 use Rattle.enc_tables.specs.declared.records.MbKind.{MbKind}
 use Rattle.enc_tables.specs.declared.records.MbRecord.{MbRecord}
-use Rattle.enc_tables.specs.Kinds.{is_nxn, is_16x16, is_intra, is_skipped}
+use Rattle.enc_tables.specs.Kinds.{is_nxn, is_16x16, is_intra, is_skipped, has_motion}
 use Rattle.enc_tables.specs.Records.{zero_vector}
-use Rattle.spec_contexts.specs.Increments.{bit_of, some_level, has_motion}
+use Rattle.spec_contexts.specs.Increments.{bit_of, some_level}
 use Rattle.spec_syntax.specs.Elements.{IsDelta}
 use Rattle.spec_syntax.specs.Blocks.{IsLevel}
 use Rattle.spec_partitions.specs.Near.{Near, has_residual}

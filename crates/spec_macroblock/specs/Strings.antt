@@ -2,9 +2,9 @@
 use Rattle.std.specs.Prelude.{ℕ, ◌+◌, ◌*◌, ◌/◌, ◌%◌, ◌==◌, true, false, not, ◌&&◌, List, [], ◌∷◌, ◌++◌, get_or, slice_range, ℤ, pos, ◌-ℤ◌}
 use Rattle.enc_tables.specs.declared.records.MbRecord.{MbRecord}
 use Rattle.enc_tables.specs.declared.records.SliceKind.{SliceKind}
-use Rattle.enc_tables.specs.Kinds.{is_nxn, is_16x16, is_intra, is_skipped}
+use Rattle.enc_tables.specs.Kinds.{is_nxn, is_16x16, is_intra, is_skipped, has_motion}
 use Rattle.enc_tables.specs.declared.records.MbKind.{MbKind}
-use Rattle.spec_contexts.specs.Increments.{bit_of, has_motion, inc_skip, inc_type_i, inc_type_b, inc_transform, inc_chroma_mode, inc_luma_cbp, inc_chroma_cbp, inc_qp_delta, inc_coded}
+use Rattle.spec_contexts.specs.Increments.{bit_of, inc_skip, inc_type_i, inc_type_b, inc_transform, inc_chroma_mode, inc_luma_cbp, inc_chroma_cbp, inc_qp_delta, inc_coded}
 use Rattle.spec_syntax.specs.declared.Bin.{Bin}
 use Rattle.spec_syntax.specs.Syntax.{flag_string}
 use Rattle.spec_syntax.specs.Sequences.{string_where}

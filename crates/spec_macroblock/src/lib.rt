@@ -5,7 +5,7 @@
 ghost use Rattle.std.specs.Prelude.{◌≡◌, ℕ, Bool, List, [], ◌∷◌, ◌++◌};
 ghost use Rattle.enc_tables.specs.declared.records.MbRecord.{MbRecord};
 ghost use Rattle.spec_syntax.specs.Syntax.{Reads};
-ghost use Rattle.spec_slice.specs.Decoding.{GoesOn};
+ghost use Rattle.spec_slice_data.specs.Coding.{GoesOn};
 ghost use Rattle.spec_partitions.specs.Near.{Near, View, has_delta, last_qp, last_has_delta};
 ghost use Rattle.spec_macroblock.specs.Macroblock.{macroblock};
 ghost use Rattle.spec_macroblock.specs.Strings.{macroblock_string};

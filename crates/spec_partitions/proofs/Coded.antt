@@ -8,9 +8,8 @@ use Rattle.enc_tables.specs.declared.records.MbKind.{MbKind}
 use Rattle.enc_tables.specs.declared.records.Motion.{Motion}
 use Rattle.enc_tables.specs.declared.records.Vector.{Vector}
 use Rattle.enc_tables.specs.declared.records.MbRecord.{MbRecord}
-use Rattle.enc_tables.specs.Kinds.{is_skipped, is_direct}
-use Rattle.enc_tables.specs.Records.{zero_vector, no_motion}
-use Rattle.spec_contexts.specs.Increments.{has_motion, is_used}
+use Rattle.enc_tables.specs.Kinds.{is_skipped, is_direct, has_motion}
+use Rattle.enc_tables.specs.Records.{zero_vector, no_motion, is_used}
 use Rattle.spec_motion.specs.declared.Field.{Field}
 use Rattle.spec_motion.specs.Neighbours.{reference_of, vector_of}
 use Rattle.spec_motion.specs.Prediction.{median, only, predicted}
@@ -178,23 +177,23 @@ given_is view kind r0 r1 v0 v1 d0 d1 h k =
 
 -- ---- a coded record
 
-ref_given_0 : (r0 r1 : ℕ → ℤ) (v0 v1 : ℕ → Vector) (shape part : ℕ) → shape < 4 → part < part_count shape → slice_index_or (slice_index_or (given shape r0 r1 v0 v1) (first_block shape part) no_motion).refs 0 (pos 0) ≡ r0 part
+pub ref_given_0 : (r0 r1 : ℕ → ℤ) (v0 v1 : ℕ → Vector) (shape part : ℕ) → shape < 4 → part < part_count shape → slice_index_or (slice_index_or (given shape r0 r1 v0 v1) (first_block shape part) no_motion).refs 0 (pos 0) ≡ r0 part
 unfolding by_part
 ref_given_0 r0 r1 v0 v1 = each_part (λ shape part. slice_index_or (slice_index_or (given shape r0 r1 v0 v1) (first_block shape part) no_motion).refs 0 (pos 0) ≡ r0 part) refl refl refl refl refl refl refl refl refl
 
-ref_given_1 : (r0 r1 : ℕ → ℤ) (v0 v1 : ℕ → Vector) (shape part : ℕ) → shape < 4 → part < part_count shape → slice_index_or (slice_index_or (given shape r0 r1 v0 v1) (first_block shape part) no_motion).refs 1 (pos 0) ≡ r1 part
+pub ref_given_1 : (r0 r1 : ℕ → ℤ) (v0 v1 : ℕ → Vector) (shape part : ℕ) → shape < 4 → part < part_count shape → slice_index_or (slice_index_or (given shape r0 r1 v0 v1) (first_block shape part) no_motion).refs 1 (pos 0) ≡ r1 part
 unfolding by_part
 ref_given_1 r0 r1 v0 v1 = each_part (λ shape part. slice_index_or (slice_index_or (given shape r0 r1 v0 v1) (first_block shape part) no_motion).refs 1 (pos 0) ≡ r1 part) refl refl refl refl refl refl refl refl refl
 
-mvd_given_0 : (d0 d1 : ℕ → Vector) (shape part : ℕ) → shape < 4 → part < part_count shape → get_or (given_mvd shape d0 d1) (4 * 0 + first_block shape part) zero_vector ≡ d0 part
+pub mvd_given_0 : (d0 d1 : ℕ → Vector) (shape part : ℕ) → shape < 4 → part < part_count shape → get_or (given_mvd shape d0 d1) (4 * 0 + first_block shape part) zero_vector ≡ d0 part
 unfolding by_part
 mvd_given_0 d0 d1 = each_part (λ shape part. get_or (given_mvd shape d0 d1) (4 * 0 + first_block shape part) zero_vector ≡ d0 part) refl refl refl refl refl refl refl refl refl
 
-mvd_given_1 : (d0 d1 : ℕ → Vector) (shape part : ℕ) → shape < 4 → part < part_count shape → get_or (given_mvd shape d0 d1) (4 * 1 + first_block shape part) zero_vector ≡ d1 part
+pub mvd_given_1 : (d0 d1 : ℕ → Vector) (shape part : ℕ) → shape < 4 → part < part_count shape → get_or (given_mvd shape d0 d1) (4 * 1 + first_block shape part) zero_vector ≡ d1 part
 unfolding by_part
 mvd_given_1 d0 d1 = each_part (λ shape part. get_or (given_mvd shape d0 d1) (4 * 1 + first_block shape part) zero_vector ≡ d1 part) refl refl refl refl refl refl refl refl refl
 
-by_equal : {A : Type 0} (f g : ℕ → A) (n : ℕ) → ((k : ℕ) → k < n → f k ≡ g k) → by_part f n ≡ by_part g n
+pub by_equal : {A : Type 0} (f g : ℕ → A) (n : ℕ) → ((k : ℕ) → k < n → f k ≡ g k) → by_part f n ≡ by_part g n
 unfolding by_part
 by_equal f g zero h = refl
 by_equal f g (suc n) h = ap₂ (λ xs x. xs ++ x ∷ []) (by_equal f g n (λ k lt. h k (omega arith))) (h n (omega arith))

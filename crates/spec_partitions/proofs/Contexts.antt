@@ -3,15 +3,16 @@ use Rattle.std.proofs.Common.{◌≡◌, ℕ, zero, suc, ◌+◌, ◌-◌, ◌^�
 use Rattle.std.specs.Prelude.{◌==◌, nat_lt, min, ℤ, pos, negsuc}
 use Rattle.std.proofs.lemmas.Bool.Decides.{nat_tests}
 use Rattle.spec_syntax.specs.declared.Bin.{Bin}
-use Rattle.spec_syntax.specs.declared.TheConstants.{SIGNIFICANT8, LAST8}
+use Rattle.enc_tables.specs.declared.significance.TheConstants.{SIGNIFICANT8, LAST8}
 use Rattle.spec_syntax.specs.Syntax.{at, flag_string}
 use Rattle.spec_syntax.specs.Sequences.{string_where}
 use Rattle.spec_syntax.specs.Elements.{string}
 use Rattle.spec_syntax.specs.Numbers.{ones_string, number_string, golomb_string}
 use Rattle.spec_syntax.specs.Levels.{coded_at, flags_from, place_in, significant_at, last_at, levels_from, first_at, others_at, minus1_string}
 use Rattle.spec_syntax.specs.Blocks.{none, nonzero, above_one, equal_one, significance_string, level_string, levels_string, block_string, some_levels_string}
-use Rattle.spec_slice.specs.Decoding.{is_terminate, GoesOn}
-use Rattle.spec_slice.proofs.Decoded.{goes_on_append}
+use Rattle.spec_slice_data.specs.Decoding.{is_terminate}
+use Rattle.spec_slice_data.specs.Coding.{GoesOn}
+use Rattle.spec_slice_data.proofs.Decoded.{goes_on_append}
 use Rattle.spec_partitions.specs.Parts.{parts_string}
 
 -- a context that isn't that of termination

@@ -6,9 +6,8 @@ use Rattle.enc_tables.specs.declared.records.MbKind.{MbKind}
 use Rattle.enc_tables.specs.declared.records.MbRecord.{MbRecord}
 use Rattle.enc_tables.specs.declared.records.Motion.{Motion}
 use Rattle.enc_tables.specs.declared.records.SliceKind.{SliceKind}
-use Rattle.enc_tables.specs.Kinds.{is_skipped, is_direct}
+use Rattle.enc_tables.specs.Kinds.{is_skipped, is_direct, has_motion}
 use Rattle.enc_tables.specs.Records.{no_motion, zero_vector}
-use Rattle.spec_contexts.specs.Increments.{has_motion}
 use Rattle.spec_motion.specs.declared.Field.{Field}
 use Rattle.spec_motion.specs.Neighbours.{reference_of}
 use Rattle.spec_motion.specs.Skip.{skip_of}

@@ -10,8 +10,9 @@ use Rattle.spec_syntax.specs.declared.ListUse.{ListUse}
 use Rattle.spec_syntax.specs.Elements.{IntraType, NxN, Pcm, Whole}
 use Rattle.spec_syntax.specs.Numbers.{prefix_string, golomb_string}
 use Rattle.spec_syntax.specs.Inter.{PType, p_type_string, BType, b_type_string, sub_type_p, sub_at, sub_type_string, sub_string, ref_at, ref_index_string, mvd_from, mvd_at, sign_string, mvd_string}
-use Rattle.spec_slice.specs.Decoding.{is_terminate, GoesOn}
-use Rattle.spec_slice.proofs.Decoded.{goes_on_append}
+use Rattle.spec_slice_data.specs.Decoding.{is_terminate}
+use Rattle.spec_slice_data.specs.Coding.{GoesOn}
+use Rattle.spec_slice_data.proofs.Decoded.{goes_on_append}
 use Rattle.spec_partitions.specs.Near.{Near}
 use Rattle.spec_partitions.specs.Partitions.{shape_of, part_count, first_block, part_mvd}
 use Rattle.spec_partitions.specs.Inter.{sub_part_string, sub_types_string, ref_part_string, references_string, mvd_part_string, differences_string, inter_string}

@@ -4,9 +4,8 @@ use Rattle.std.specs.Prelude.{ℤ, pos, slice_index_or, int_lt}
 use Rattle.std.specs.Option.{option_or}
 use Rattle.enc_tables.specs.declared.records.MbRecord.{MbRecord}
 use Rattle.enc_tables.specs.declared.records.Motion.{Motion}
-use Rattle.enc_tables.specs.Kinds.{is_skipped, is_direct}
+use Rattle.enc_tables.specs.Kinds.{is_skipped, is_direct, has_motion}
 use Rattle.enc_tables.specs.Records.{no_motion, zero_vector}
-use Rattle.spec_contexts.specs.Increments.{has_motion}
 use Rattle.spec_motion.specs.declared.Field.{Field}
 use Rattle.spec_motion.specs.Skip.{skip_of}
 use Rattle.spec_motion.specs.Direct.{direct_reference, uses_neither, motion_with, col_zero, direct_block, direct_of}
@@ -18,12 +17,12 @@ use Rattle.spec_partitions.specs.Records.{HasMotion}
 use Rattle.spec_partitions.specs.Small.{FieldSmall, BlockSmall, AllSmall, NearSmall, ViewSmall}
 use Rattle.spec_partitions.proofs.Small.{zero_small, pick, skip_small, direct_small}
 
-says : (most : ℕ) (n : Option MbRecord) (k : ℕ) → k < 4 → NearSmall most n → BlockSmall most (motion_in n k)
+pub says : (most : ℕ) (n : Option MbRecord) (k : ℕ) → k < 4 → NearSmall most n → BlockSmall most (motion_in n k)
 unfolding NearSmall
 says most None k lt h = record { first = zero_small most; second = zero_small most }
 says most (Some n) k lt h = h.at k lt
 
-either_says : (most : ℕ) (x y : Option Motion) → BlockSmall most x → BlockSmall most y → BlockSmall most (option_or x y)
+pub either_says : (most : ℕ) (x y : Option Motion) → BlockSmall most x → BlockSmall most y → BlockSmall most (option_or x y)
 either_says most None y h k = k
 either_says most (Some m) y h k = h
 
@@ -61,7 +60,7 @@ skip_in most view v =
     let one : BlockSmall most (Some (skip_of (whole_field view))) = record { first = skip_small most (whole_field view) (field_says most view v).first; second = zero_small most } in
     record { at = below_4 (λ k. BlockSmall most (Some (get_or (replicate 4 (skip_of (whole_field view))) k no_motion))) one one one one }
 
-blank_in : (most : ℕ) → AllSmall most (replicate 4 no_motion)
+pub blank_in : (most : ℕ) → AllSmall most (replicate 4 no_motion)
 blank_in most =
     let one : BlockSmall most (Some no_motion) = record { first = zero_small most; second = zero_small most } in
     record { at = below_4 (λ k. BlockSmall most (Some (get_or (replicate 4 no_motion) k no_motion))) one one one one }

@@ -7,8 +7,7 @@ use Rattle.std.proofs.lemmas.List.{get_or-map}
 use Rattle.enc_tables.specs.declared.records.MbRecord.{MbRecord}
 use Rattle.enc_tables.specs.declared.records.Vector.{Vector}
 use Rattle.enc_tables.specs.declared.records.SliceKind.{SliceKind}
-use Rattle.enc_tables.specs.Records.{zero_vector}
-use Rattle.spec_contexts.specs.Increments.{is_used}
+use Rattle.enc_tables.specs.Records.{zero_vector, is_used}
 use Rattle.spec_syntax.specs.declared.Bin.{Bin}
 use Rattle.spec_syntax.specs.Syntax.{Syntax, Reads, done, ◌>>=◌}
 use Rattle.spec_syntax.specs.Sequences.{where_present, string_where}

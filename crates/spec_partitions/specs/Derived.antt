@@ -5,9 +5,8 @@ use Rattle.enc_tables.specs.declared.records.MbKind.{MbKind}
 use Rattle.enc_tables.specs.declared.records.MbRecord.{MbRecord}
 use Rattle.enc_tables.specs.declared.records.Motion.{Motion}
 use Rattle.enc_tables.specs.declared.records.Vector.{Vector}
-use Rattle.enc_tables.specs.Kinds.{is_skipped, is_direct}
-use Rattle.enc_tables.specs.Records.{zero_vector, no_motion}
-use Rattle.spec_contexts.specs.Increments.{has_motion, is_used}
+use Rattle.enc_tables.specs.Kinds.{is_skipped, is_direct, has_motion}
+use Rattle.enc_tables.specs.Records.{zero_vector, no_motion, is_used}
 use Rattle.spec_motion.specs.declared.Field.{Field}
 use Rattle.spec_motion.specs.Prediction.{predicted}
 use Rattle.spec_motion.specs.Skip.{skip_of}

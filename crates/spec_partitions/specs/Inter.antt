@@ -4,8 +4,8 @@ use Rattle.enc_tables.specs.declared.records.MbKind.{MbKind}
 use Rattle.enc_tables.specs.declared.records.MbRecord.{MbRecord}
 use Rattle.enc_tables.specs.declared.records.Vector.{Vector}
 use Rattle.enc_tables.specs.declared.records.SliceKind.{SliceKind}
-use Rattle.enc_tables.specs.Records.{zero_vector, no_motion}
-use Rattle.spec_contexts.specs.Increments.{is_used, inc_ref, inc_mvd}
+use Rattle.enc_tables.specs.Records.{zero_vector, no_motion, is_used}
+use Rattle.spec_contexts.specs.Increments.{inc_ref, inc_mvd}
 use Rattle.spec_syntax.specs.declared.Bin.{Bin}
 use Rattle.spec_syntax.specs.declared.ListUse.{ListUse}
 use Rattle.spec_syntax.specs.Syntax.{Syntax, done, nothing, ◌>>=◌, flag}

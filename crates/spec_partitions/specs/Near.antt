@@ -5,7 +5,7 @@ use Rattle.enc_tables.specs.declared.records.MbRecord.{MbRecord}
 use Rattle.enc_tables.specs.declared.records.Motion.{Motion}
 use Rattle.enc_tables.specs.declared.records.SliceKind.{SliceKind}
 use Rattle.enc_tables.specs.Kinds.{is_16x16, is_intra, is_skipped}
-use Rattle.enc_tables.specs.Records.{blank_record}
+use Rattle.enc_tables.specs.Records.{no_record}
 
 pub record Near : Type 0 where
   -- the slice's type
@@ -57,9 +57,6 @@ last_qp qp (mb ∷ mbs) = last_qp mb.qp mbs
 unfoldable pub last_has_delta : Bool → ℕ → List MbRecord → Bool
 last_has_delta given qp [] = given
 last_has_delta given qp (mb ∷ mbs) = last_has_delta (has_delta qp mb) mb.qp mbs
-
-abbrev pub no_record : MbRecord
-no_record = blank_record MbKind.Pcm 0
 
 -- what a slice says to all its macroblocks: its type, the picture's width in macroblocks, the slice's first macroblock and its QP,
 -- transform_8x8_mode_flag and the lengths of its lists

@@ -3,9 +3,8 @@ use Rattle.std.specs.Prelude.{◌≡◌, ℕ, ◌<◌, Bool, true, false, not, �
 use Rattle.enc_tables.specs.declared.records.MbKind.{MbKind}
 use Rattle.enc_tables.specs.declared.records.MbRecord.{MbRecord}
 use Rattle.enc_tables.specs.declared.records.SliceKind.{SliceKind}
-use Rattle.enc_tables.specs.Kinds.{is_nxn, is_16x16, is_skipped, is_direct}
-use Rattle.enc_tables.specs.Records.{zero_vector}
-use Rattle.spec_contexts.specs.Increments.{has_motion, is_used}
+use Rattle.enc_tables.specs.Kinds.{is_nxn, is_16x16, is_skipped, is_direct, has_motion}
+use Rattle.enc_tables.specs.Records.{zero_vector, is_used}
 use Rattle.spec_syntax.specs.Inter.{is_p, is_b, IsDifference}
 use Rattle.spec_partitions.specs.Near.{Near, View}
 use Rattle.spec_partitions.specs.Partitions.{shape_of, part_count, part_ref, part_mvd, written_of}

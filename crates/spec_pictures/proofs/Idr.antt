@@ -4,13 +4,13 @@ use Rattle.std.specs.List.{AllByRecursion, flat_map, IsDistinct}
 use Rattle.enc_tables.specs.declared.records.PlanStep.{PlanStep}
 use Rattle.enc_tables.specs.declared.records.SliceKind.TheVariants.{I}
 use Rattle.spec_film.specs.Films.{Planes}
-use Rattle.spec_bits.specs.declared.heads.SeqHead.{SeqHead}
-use Rattle.spec_bits.specs.declared.heads.SliceHead.{SliceHead}
-use Rattle.spec_bits.specs.Allowed.{IsSeqHead}
+use Rattle.spec_headers.specs.declared.heads.SeqHead.{SeqHead}
+use Rattle.spec_headers.specs.declared.heads.SliceHead.{SliceHead}
+use Rattle.spec_headers.specs.Allowed.{IsSeqHead}
 use Rattle.spec_bits.specs.Units.{Nal, written, unit_bytes}
-use Rattle.spec_stream.specs.Decode.{placed, pictures_in}
+use Rattle.spec_decoder.specs.Output.{placed, pictures_in}
 use Rattle.spec_lists.specs.References.{Reference}
-use Rattle.spec_pictures.specs.Decode.{Reading, shown_planes, made, decode_by, read_by}
+use Rattle.spec_decoder.specs.Pictures.{Reading, shown_planes, made, decode_by, read_by}
 use Rattle.spec_pictures.specs.Coded.{CodedSlice, slices_in, slice_units, picture_units, stream_of, AllCover, shown_of, slices_of_each}
 use Rattle.spec_pictures.specs.Coded as idr
 use Rattle.spec_pictures.specs.Accesses.{Access, sequence_nal, picture_nal, slice_nals, is_set, access_nals, access_bytes, accesses_bytes, Covers, held_after, AllCoded, Follows, shown_from, slices_of_accesses, id_in, AreOthers, places_of}

@@ -4,7 +4,7 @@ use Rattle.std.specs.Prelude.{nat_lt, nat_eq, not, ◌&&◌, ◌==◌, Bool}
 use Rattle.std.specs.List.{AllByRecursion, list_all}
 use Rattle.std.proofs.lemmas.Bool.Decides.{nat_tests}
 use Rattle.spec_film.specs.Films.{Planes}
-use Rattle.spec_stream.specs.Decode.{placed, pictures_in}
+use Rattle.spec_decoder.specs.Output.{placed, pictures_in}
 
 -- by its picture order count since the picture at place base
 abbrev pub unshift : ℕ → ℕ × Planes → ℕ × Planes

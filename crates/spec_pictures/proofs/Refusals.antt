@@ -5,19 +5,19 @@ use Rattle.std.specs.Prelude.{get_or, is_some, option_and_then}
 use Rattle.std.specs.Int.Count.{count_leading_zeros}
 use Rattle.enc_tables.specs.declared.records.SliceKind.{SliceKind}
 use Rattle.enc_tables.specs.declared.records.SliceKind.TheVariants.{I, P, B}
-use Rattle.spec_bits.specs.declared.heads.SliceHead.{SliceHead}
+use Rattle.spec_headers.specs.declared.heads.SliceHead.{SliceHead}
 use Rattle.spec_bits.specs.Bits.{digits, bits_of_bytes, bytes_of_bits}
 use Rattle.spec_bits.specs.Golomb.{ue_bits, se_bits, trail_bits}
 use Rattle.spec_bits.specs.Fields.{fields_bits}
-use Rattle.spec_bits.specs.Heads.{sequence_payload, sequence_fields, format_fields, cropping_fields, usability_fields, picture_payload, picture_fields}
+use Rattle.spec_headers.specs.HeadFields.{sequence_payload, sequence_fields, format_fields, cropping_fields, usability_fields, picture_payload, picture_fields}
 use Rattle.spec_bits.specs.Units.{Nal}
 use Rattle.spec_reading.specs.Reader.{u_behind, ue_behind, se, signed_at, fixed, flag}
-use Rattle.spec_reading.specs.HeadReaders.{sequence, cropping, picture}
-use Rattle.spec_stream.specs.Decode.{read_set, placed}
-use Rattle.spec_stream.specs.Samples.{cropped_plane}
+use Rattle.spec_headers.specs.HeadReaders.{sequence, cropping, picture}
+use Rattle.spec_decoder.specs.Sets.{read_set}
+use Rattle.spec_decoder.specs.Output.{placed, cropped_plane}
 use Rattle.spec_lists.specs.References.{slid}
 use Rattle.spec_lists.specs.Heads.{common}
-use Rattle.spec_pictures.specs.Decode.{Reading, Decoder, start, made, shown, joined, slice_step, with_slice, step, steps, all_shown}
+use Rattle.spec_decoder.specs.Pictures.{Reading, Decoder, start, made, shown, joined, slice_step, with_slice, step, steps, all_shown}
 use Rattle.spec_pictures.specs.Accesses.{picture_nal}
 
 head : SliceKind → Bool → ℕ → ℕ → ℕ → SliceHead

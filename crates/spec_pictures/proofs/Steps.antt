@@ -10,20 +10,20 @@ use Rattle.std.proofs.lemmas.List.Sums.{sum_by-append}
 use Rattle.enc_tables.specs.declared.records.PlanStep.{PlanStep}
 use Rattle.enc_tables.specs.declared.records.SliceKind.{SliceKind}
 use Rattle.enc_tables.specs.declared.records.SliceKind.TheVariants.{I, P, B}
-use Rattle.spec_bits.specs.declared.heads.SeqHead.{SeqHead}
-use Rattle.spec_bits.specs.declared.heads.SliceHead.{SliceHead}
+use Rattle.spec_headers.specs.declared.heads.SeqHead.{SeqHead}
+use Rattle.spec_headers.specs.declared.heads.SliceHead.{SliceHead}
 use Rattle.spec_bits.specs.Fields.{fields_bits}
-use Rattle.spec_bits.specs.Heads.{sequence_fields, picture_fields, sequence_payload, picture_payload}
-use Rattle.spec_bits.specs.Allowed.{IsSeqHead}
+use Rattle.spec_headers.specs.HeadFields.{sequence_fields, picture_fields, sequence_payload, picture_payload}
+use Rattle.spec_headers.specs.Allowed.{IsSeqHead}
 use Rattle.spec_bits.specs.Units.{Nal}
-use Rattle.spec_reading.specs.HeadReaders.{sequence, picture}
-use Rattle.spec_reading.proofs.HeadLaws.{reads_sequence, reads_picture}
-use Rattle.spec_stream.specs.Decode.{read_set, across_of, down_of}
+use Rattle.spec_headers.specs.HeadReaders.{sequence, picture}
+use Rattle.spec_headers.proofs.HeadLaws.{reads_sequence, reads_picture}
+use Rattle.spec_decoder.specs.Sets.{read_set, across_of, down_of}
 use Rattle.spec_stream.proofs.DecodeLaws.{read_set-back}
 use Rattle.spec_lists.specs.References.{Reference, kept}
 use Rattle.spec_lists.specs.Heads.{is_referred, ref_idc_of, fits_ref_idc, is_numbered, common, idr_id_of}
-use Rattle.spec_pictures.specs.Passed.{is_passed}
-use Rattle.spec_pictures.specs.Decode.{Reading, Decoder, counted, shown, joined, goes_with, slice_step, with_slice, with_sequence, step, steps, with_picture, may_follow}
+use Rattle.spec_decoder.specs.Passed.{is_passed}
+use Rattle.spec_decoder.specs.Pictures.{Reading, Decoder, counted, shown, joined, goes_with, slice_step, with_slice, with_sequence, step, steps, with_picture, may_follow}
 use Rattle.spec_pictures.specs.Coded.{CodedSlice, slices_in}
 use Rattle.spec_pictures.specs.Accesses.{picture_nal, slice_nal, slice_nals, set_nals, HasHead, IsCodedSlice, Covers, IsPassedOver, id_in}
 

@@ -7,13 +7,13 @@ use Rattle.enc_tables.specs.declared.records.PlanStep.{PlanStep}
 use Rattle.enc_tables.specs.declared.records.SliceKind.{SliceKind}
 use Rattle.enc_tables.specs.declared.records.SliceKind.TheVariants.{I, P, B}
 use Rattle.spec_film.specs.Films.{Planes}
-use Rattle.spec_bits.specs.declared.heads.SeqHead.{SeqHead}
-use Rattle.spec_bits.specs.Allowed.{IsSeqHead}
+use Rattle.spec_headers.specs.declared.heads.SeqHead.{SeqHead}
+use Rattle.spec_headers.specs.Allowed.{IsSeqHead}
 use Rattle.spec_bits.specs.Units.{Nal}
-use Rattle.spec_stream.specs.Decode.{placed, pictures_in}
+use Rattle.spec_decoder.specs.Output.{placed, pictures_in}
 use Rattle.spec_lists.specs.References.{Reference, kept, slid}
 use Rattle.spec_lists.specs.Heads.{is_referred, is_numbered, newest_number, idr_id_of, is_other}
-use Rattle.spec_pictures.specs.Decode.{Reading, Decoder, start, made, shown_planes, held_behind, shown, steps, all_shown, all_read, behind, decode_by, read_by, may_follow}
+use Rattle.spec_decoder.specs.Pictures.{Reading, Decoder, start, made, shown_planes, held_behind, shown, steps, all_shown, all_read, behind, decode_by, read_by, may_follow}
 use Rattle.spec_pictures.specs.Coded.{slices_in}
 use Rattle.spec_pictures.specs.Accesses.{Access, set_nals, slice_nals, access_nals, accesses_bytes, Covers, IsAccess, picture_of, held_after, AllCoded, IsPlaced, base_after, next_after, Follows, shown_from, pictures_shown, slices_of_accesses, id_in, AreOthers, places_of}
 use Rattle.spec_pictures.proofs.Order.{unshift, AtMost, AtLeast, Below, placed-append, placed_last, placed_shift, all_placed, all_weaker, pictures_shift, pictures-append, IsNew, AreNew, still_new, new_behind, none_equal}

@@ -4,18 +4,18 @@ use Rattle.std.specs.List.{flat_map, IsDistinct}
 use Rattle.enc_tables.specs.declared.records.Motion.{Motion}
 use Rattle.enc_tables.specs.declared.records.PlanStep.{PlanStep}
 use Rattle.spec_film.specs.Films.{Planes}
-use Rattle.spec_bits.specs.declared.heads.SeqHead.{SeqHead}
-use Rattle.spec_bits.specs.declared.heads.SliceHead.{SliceHead}
+use Rattle.spec_headers.specs.declared.heads.SeqHead.{SeqHead}
+use Rattle.spec_headers.specs.declared.heads.SliceHead.{SliceHead}
 use Rattle.spec_bits.specs.Units.{Nal, written}
-use Rattle.spec_stream.specs.Decode.{placed, pictures_in}
+use Rattle.spec_decoder.specs.Output.{placed, pictures_in}
 use Rattle.spec_lists.specs.References.{Reference, kept}
 use Rattle.spec_lists.specs.Heads.{is_referred, is_other, idr_id_of}
-use Rattle.spec_pictures.specs.Decode.{Reading, made, shown_planes, held_behind, decode_by, read_by}
+use Rattle.spec_decoder.specs.Pictures.{Reading, made, shown_planes, held_behind, decode_by, read_by}
 use Rattle.spec_pictures.specs.Coded.{CodedSlice, slices_in}
 use Rattle.spec_pictures.specs.Accesses.{Access, slice_nal, set_nals, started, slice_nals, access_nals, access_bytes, accesses_bytes, HasHead, Covers, picture_of, held_after, AllCoded, shown_from, Follows, pictures_shown, slices_of_accesses, id_in, AreOthers, places_of}
 use Rattle.std.specs.Prelude.{nat_eq}
 use Rattle.spec_pictures.proofs.Streams.{streams_decode, streams_are_read}
-use Rattle.spec_bits.specs.Allowed.{IsSeqHead}
+use Rattle.spec_headers.specs.Allowed.{IsSeqHead}
 
 pub record Translates {S T : Type 0} (r : Reading S) (t : Reading T) (s : SeqHead) (flags : Bool × Bool) (g : S → T) : Type 0 where
   pub slice : (idr : Bool) (held : List Reference) (payload : List ℕ) (x : S) → r.slice s flags idr held payload ≡ Some x → t.slice s flags idr held payload ≡ Some (g x)

@@ -7,15 +7,15 @@ use Rattle.std.proofs.lemmas.List.Elements.{All-nil, All-cons, All-append}
 use Rattle.enc_tables.specs.declared.records.PlanStep.{PlanStep}
 use Rattle.enc_tables.specs.declared.records.SliceKind.{SliceKind}
 use Rattle.enc_tables.specs.declared.records.SliceKind.TheVariants.{I, P, B}
-use Rattle.spec_bits.specs.declared.heads.SeqHead.{SeqHead}
-use Rattle.spec_bits.specs.declared.heads.SliceHead.{SliceHead}
+use Rattle.spec_headers.specs.declared.heads.SeqHead.{SeqHead}
+use Rattle.spec_headers.specs.declared.heads.SliceHead.{SliceHead}
 use Rattle.spec_bits.specs.Fields.{fields_bits}
-use Rattle.spec_bits.specs.Heads.{sequence_fields, picture_fields, sequence_payload, picture_payload}
+use Rattle.spec_headers.specs.HeadFields.{sequence_fields, picture_fields, sequence_payload, picture_payload}
 use Rattle.spec_bits.specs.Units.{Nal, IsNal, EndsWell, written, units_of}
 use Rattle.spec_bits.proofs.UnitLaws.{units_are_read_back}
 use Rattle.spec_stream.proofs.Ends.{ends_in_trail}
 use Rattle.spec_lists.specs.References.{Reference, kept}
-use Rattle.spec_pictures.specs.Decode.{Reading}
+use Rattle.spec_decoder.specs.Pictures.{Reading}
 use Rattle.spec_pictures.specs.Coded.{CodedSlice}
 use Rattle.spec_pictures.specs.Accesses.{Access, slice_nal, slice_nals, set_nals, access_nals, is_set, started, access_bytes, accesses_bytes, Covers, IsPassedOver, IsAccess, AllCoded, held_after}
 

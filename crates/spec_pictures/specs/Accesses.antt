@@ -5,16 +5,17 @@ use Rattle.enc_tables.specs.declared.records.PlanStep.{PlanStep}
 use Rattle.enc_tables.specs.declared.records.SliceKind.{SliceKind}
 use Rattle.enc_tables.specs.declared.records.SliceKind.TheVariants.{I}
 use Rattle.spec_film.specs.Films.{Planes}
-use Rattle.spec_bits.specs.declared.heads.SeqHead.{SeqHead}
-use Rattle.spec_bits.specs.declared.heads.SliceHead.{SliceHead}
-use Rattle.spec_bits.specs.Heads.{sequence_payload, picture_payload}
+use Rattle.spec_headers.specs.declared.heads.SeqHead.{SeqHead}
+use Rattle.spec_headers.specs.declared.heads.SliceHead.{SliceHead}
+use Rattle.spec_headers.specs.HeadFields.{sequence_payload, picture_payload}
 use Rattle.spec_bits.specs.Units.{Nal, written, EndsWell}
-use Rattle.spec_stream.specs.Decode.{across_of, down_of, placed, pictures_in}
+use Rattle.spec_decoder.specs.Sets.{across_of, down_of}
+use Rattle.spec_decoder.specs.Output.{placed, pictures_in}
 use Rattle.spec_lists.specs.References.{Reference, kept}
 use Rattle.spec_lists.specs.Heads.{is_referred, ref_idc_of, common, idr_id_of, is_other}
-use Rattle.spec_pictures.specs.Passed.{is_passed}
+use Rattle.spec_decoder.specs.Passed.{is_passed}
 use Rattle.spec_pictures.specs.Coded.{CodedSlice, slices_in}
-use Rattle.spec_pictures.specs.Decode.{Reading, made, shown_planes, held_behind}
+use Rattle.spec_decoder.specs.Pictures.{Reading, made, shown_planes, held_behind}
 
 -- A picture as it stands in a stream: its step in the plan, its slices, and the units before and behind them that a decoder passes over
 pub record Access (S : Type 0) : Type 0 where

@@ -2,14 +2,14 @@
 use Rattle.std.specs.Prelude.{ℕ, ◌≡◌, ◌+◌, ◌*◌, ◌<◌, Bool, true, false, List, [], ◌∷◌, ◌++◌, map, Some, Option}
 use Rattle.std.specs.List.{flat_map}
 use Rattle.spec_film.specs.Films.{Planes}
-use Rattle.spec_bits.specs.declared.heads.SeqHead.{SeqHead}
-use Rattle.spec_bits.specs.declared.heads.SliceHead.{SliceHead}
+use Rattle.spec_headers.specs.declared.heads.SeqHead.{SeqHead}
+use Rattle.spec_headers.specs.declared.heads.SliceHead.{SliceHead}
 use Rattle.enc_tables.specs.declared.records.SliceKind.TheVariants.{I}
 use Rattle.spec_lists.specs.Heads.{common, is_other}
-use Rattle.spec_bits.specs.Heads.{sequence_payload, picture_payload}
+use Rattle.spec_headers.specs.HeadFields.{sequence_payload, picture_payload}
 use Rattle.spec_bits.specs.Units.{unit_bytes, EndsWell}
-use Rattle.spec_stream.specs.Decode.{across_of, down_of}
-use Rattle.spec_pictures.specs.Decode.{Reading, shown_planes}
+use Rattle.spec_decoder.specs.Sets.{across_of, down_of}
+use Rattle.spec_decoder.specs.Pictures.{Reading, shown_planes}
 
 -- the payload of a slice, and what it is read as
 pub record CodedSlice (S : Type 0) : Type 0 where

@@ -4,9 +4,9 @@
 
 ghost use Rattle.std.specs.List.{IsDistinct};
 ghost use Rattle.std.specs.Prelude.{◌≡◌, ◌<◌, nat_eq, Bool, List, [], None, Some, false, map};
-ghost use Rattle.spec_bits.specs.declared.heads.SeqHead.{SeqHead};
-ghost use Rattle.spec_bits.specs.Allowed.{IsSeqHead};
-ghost use Rattle.spec_pictures.specs.Decode.{Reading, decode_by, read_by};
+ghost use Rattle.spec_headers.specs.declared.heads.SeqHead.{SeqHead};
+ghost use Rattle.spec_headers.specs.Allowed.{IsSeqHead};
+ghost use Rattle.spec_decoder.specs.Pictures.{Reading, decode_by, read_by};
 ghost use Rattle.spec_pictures.specs.Accesses.{Access, AllCoded, AreOthers, Follows, accesses_bytes, places_of, pictures_shown, slices_of_accesses};
 ghost use Rattle.spec_pictures.specs.Coded.{CodedSlice, AllCover, stream_of, shown_of, slices_of_each};
 

@@ -1,6 +1,1 @@
 pub mod Laws
-pub mod HeadLaws
-pub mod OtherHeads
-pub mod AllHeads
-pub mod MessageLaws
-mod Rows

@@ -9,8 +9,9 @@ use lib.Ieee.Fits.{and_l, and_r}
 use Rattle.enc_tables.specs.declared.transform.TheConstants.{MULTIPLIER4, MULTIPLIER8, SCALING4, SCALING8, CLASS4, CLASS8}
 use Rattle.spec_residual.specs.declared.BlockKind.{BlockKind}
 use Rattle.spec_residual.specs.declared.BlockKind.TheVariants.{Luma4, Luma8, LumaDc, Chroma4, ChromaDc}
-use Rattle.spec_residual.specs.Blocks.{Within}
-use Rattle.spec_residual.specs.Levels.{in_table, multiplier, shift, share, rounding, signed_level, level_of, greatest, IsMade}
+use Rattle.spec_basics.specs.Bounds.{Within}
+use Rattle.spec_residual.specs.Blocks.{in_table}
+use Rattle.spec_residual.specs.Levels.{multiplier, shift, share, rounding, signed_level, level_of, greatest, IsMade}
 use Rattle.spec_residual.specs.Rescaled.{scaling, quarter_scaled, rescaled}
 use Rattle.std.specs.Int.{int_shr}
 use Rattle.std.specs.Int.Signed.{shr_z}

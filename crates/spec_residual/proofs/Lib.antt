@@ -1,3 +1,3 @@
 pub mod Bounds
 pub mod Listed
-mod Rows
+mod Examples

@@ -1,12 +1,13 @@
 -- Blocks of signed numbers, written row by row, and matrices.
-use Rattle.std.specs.Prelude.{ℕ, zero, suc, ℤ, pos, negsuc, ◌≤ℤ◌, ◌-ℤ◌, ◌+ℤ◌, ◌*ℤ◌, Bool, true, false, List, [], map, slice_index_or, ◌<◌, ◌+◌, ◌*◌, ◌^◌}
+use Rattle.std.specs.Prelude.{ℕ, zero, suc, ℤ, pos, negsuc, ◌+ℤ◌, ◌*ℤ◌, Bool, true, false, List, [], map, slice_index, slice_index_or, ◌<◌, ◌+◌, ◌*◌, ◌^◌}
 use Rattle.std.specs.Int.{int_shr}
 use Rattle.std.specs.List.{range_with_len, count_by}
+use Rattle.spec_basics.specs.Bounds.{Within}
+use Rattle.spec_basics.specs.Sums.{int_sum_below}
 
--- at most b in size
-pub record Within (b : ℕ) (x : ℤ) : Type 0 where
-  pub low : (pos 0 -ℤ pos b) ≤ℤ x
-  pub high : x ≤ℤ pos b
+-- the value in row i and column j of a table
+abbrev pub in_table : List (List ℕ) → ℕ → ℕ → ℕ
+in_table rows i j = slice_index (slice_index_or rows i []) j
 
 -- the value at place p
 abbrev pub item : List ℤ → ℕ → ℤ
@@ -19,11 +20,6 @@ AllWithin n b xs = (p : ℕ) → p < n → Within b (item xs p)
 -- the values of f at the places below n
 unfoldable pub listed : ℕ → (ℕ → ℤ) → List ℤ
 listed n f = map f (range_with_len 0 n)
-
--- the sum of f over the numbers below n
-abbrev pub sum_below : ℕ → (ℕ → ℤ) → ℤ
-sum_below zero f = pos 0
-sum_below (suc n) f = sum_below n f +ℤ f n
 
 -- the block of n columns that is written row by row, as a matrix
 abbrev pub block : ℕ → List ℤ → ℕ → ℕ → ℤ
@@ -38,7 +34,7 @@ transposed a i j = a j i
 
 -- the product of two matrices, where a has n columns and b has n rows
 abbrev pub product : ℕ → (ℕ → ℕ → ℤ) → (ℕ → ℕ → ℤ) → ℕ → ℕ → ℤ
-product n a b i j = sum_below n (λ k. a i k *ℤ b k j)
+product n a b i j = int_sum_below n (λ k. a i k *ℤ b k j)
 
 -- C·(X·Cᵀ)
 abbrev pub transformed : ℕ → (ℕ → ℕ → ℤ) → (ℕ → ℕ → ℤ) → ℕ → ℕ → ℤ

@@ -1,13 +1,10 @@
 -- The quantiser.
-use Rattle.std.specs.Prelude.{ℕ, suc, ℤ, pos, negsuc, neg_ℤ, Bool, if◌then◌else◌, List, [], slice_index, slice_index_or, ◌≡◌, ◌+◌, ◌*◌, ◌/◌, ◌%◌, ◌^◌}
+use Rattle.std.specs.Prelude.{ℕ, suc, ℤ, pos, negsuc, neg_ℤ, Bool, if◌then◌else◌, List, slice_index, ◌≡◌, ◌+◌, ◌*◌, ◌/◌, ◌%◌, ◌^◌}
 use Rattle.enc_tables.specs.declared.transform.TheConstants.{MULTIPLIER4, MULTIPLIER8, CLASS4, CLASS8, ZIGZAG4, ZIGZAG8}
 use Rattle.spec_residual.specs.declared.BlockKind.{BlockKind}
 use Rattle.spec_residual.specs.declared.BlockKind.TheVariants.{Luma4, Luma8, LumaDc, Chroma4, ChromaDc}
-use Rattle.spec_residual.specs.Blocks.{Within, item, listed}
-
--- the value in row i and column j of a table
-abbrev pub in_table : List (List ℕ) → ℕ → ℕ → ℕ
-in_table rows i j = slice_index (slice_index_or rows i []) j
+use Rattle.spec_basics.specs.Bounds.{Within}
+use Rattle.spec_residual.specs.Blocks.{in_table, item, listed}
 
 -- how many places a block of this kind has
 abbrev pub places : BlockKind → ℕ

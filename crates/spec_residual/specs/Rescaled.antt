@@ -4,8 +4,7 @@ use Rattle.std.specs.Int.{int_shr}
 use Rattle.enc_tables.specs.declared.transform.TheConstants.{SCALING4, SCALING8, CLASS4, CLASS8, HADAMARD4, HADAMARD2}
 use Rattle.spec_residual.specs.declared.BlockKind.{BlockKind}
 use Rattle.spec_residual.specs.declared.BlockKind.TheVariants.{Luma4, Luma8, LumaDc, Chroma4, ChromaDc}
-use Rattle.spec_residual.specs.Blocks.{listed, rows_of, block, transformed, rounded}
-use Rattle.spec_residual.specs.Levels.{in_table}
+use Rattle.spec_residual.specs.Blocks.{listed, rows_of, block, transformed, rounded, in_table}
 
 -- the scaling of place p, row by row
 unfoldable pub scaling : BlockKind → ℕ → ℕ → ℕ

@@ -4,23 +4,24 @@ use Rattle.std.specs.Prelude.{◌&&◌, nat_le, option_and_then}
 use Rattle.std.specs.Option.{option_map}
 use Rattle.std.proofs.lemmas.Bool.Decides.{nat_tests}
 use Rattle.std.proofs.lemmas.List.{length-replicate}
-use Rattle.spec_bits.specs.declared.heads.SliceHead.{SliceHead}
+use Rattle.spec_headers.specs.declared.heads.SliceHead.{SliceHead}
 use Rattle.spec_bits.specs.Bits.{digits, bytes_of_bits}
 use Rattle.spec_bits.specs.Golomb.{trail_bits}
-use Rattle.spec_bits.specs.Heads.{slice_head_bits}
-use Rattle.spec_bits.specs.Allowed.{IsSeqHead}
+use Rattle.spec_headers.specs.HeadFields.{slice_head_bits}
+use Rattle.spec_headers.specs.Allowed.{IsSeqHead}
 use Rattle.spec_bits.specs.Units.{EndsWell}
 use Rattle.spec_bits.proofs.Digits.{length-digits, bits_of_bytes-bytes_of_bits}
 use Rattle.spec_bits.proofs.Codes.{trail_whole}
 use Rattle.spec_reading.specs.Reader.{Reader, Reads, read}
-use Rattle.spec_reading.specs.HeadReaders.{idr_slice, idr_head}
-use Rattle.spec_reading.proofs.HeadLaws.{reads_idr_slice}
+use Rattle.spec_headers.specs.HeadReaders.{idr_slice}
+use Rattle.spec_headers.specs.Heads.{idr_head}
+use Rattle.spec_headers.proofs.HeadLaws.{reads_idr_slice}
 use Rattle.spec_film.specs.declared.FilmHead.{FilmHead}
 use Rattle.spec_film.specs.Films.{Planes, AllowedHead}
 use Rattle.spec_stream.specs.Stored.{pcm_slice_bits, macroblocks_of, mbs_across, mbs_down, stored_sequence, stored_slice_head, stored_slice_bits}
 use Rattle.spec_stream.specs.Pictures.{IsPicture}
-use Rattle.spec_stream.specs.Decode.{is_trail, ended, read_set}
-use Rattle.spec_stream.specs.Pcm.{with_macroblocks, read_pcm_slice}
+use Rattle.spec_decoder.specs.Sets.{is_trail, ended, read_set}
+use Rattle.spec_decoder.specs.Pcm.{with_macroblocks, read_pcm_slice}
 use Rattle.spec_stream.proofs.Ends.{ends_in_128}
 use Rattle.spec_stream.proofs.PcmLaws.{all_zeros, slice_whole, slice_long, pcm_macroblocks-back}
 use Rattle.spec_stream.proofs.PictureLaws.{macroblocks_are, length-macroblocks_of, across_some, down_some, has_planes}

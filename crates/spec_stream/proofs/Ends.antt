@@ -6,7 +6,7 @@ use Rattle.std.proofs.lemmas.Bool.Decides.{nat_tests}
 use Rattle.spec_bits.specs.Bits.{digits, value, digit, bytes_of_bits, IsByte}
 use Rattle.spec_bits.specs.Golomb.{trail_bits}
 use Rattle.spec_bits.specs.Units.{escape, zeros_after, header_byte, start_code, unit_bytes, EndsWell}
-use Rattle.spec_bits.specs.Heads.{sequence_payload, picture_payload}
+use Rattle.spec_headers.specs.HeadFields.{sequence_payload, picture_payload}
 use Rattle.spec_film.specs.declared.FilmHead.{FilmHead}
 use Rattle.spec_film.specs.Films.{Planes}
 use Rattle.spec_stream.specs.Stored.{stored_picture, stored_sequence, stored_slice_bits, mbs_across, mbs_down}

@@ -4,5 +4,5 @@ pub mod FilmPictures
 pub mod PcmLaws
 pub mod PictureLaws
 pub mod PlaneLaws
-mod Rows
+mod Examples
 pub mod StoredLaws

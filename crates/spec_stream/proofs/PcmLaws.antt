@@ -12,7 +12,7 @@ use Rattle.spec_bits.proofs.Digits.{length-digits, length-bits_of_bytes, bytes_o
 use Rattle.spec_reading.specs.Reader.{read, ue}
 use Rattle.spec_reading.proofs.Laws.{reads_ue}
 use Rattle.spec_stream.specs.Stored.{pcm_bits, pcm_slice_bits}
-use Rattle.spec_stream.specs.Pcm.{aligned, pcm_samples, pcm_typed, pcm_macroblock, is_trailing, pcm_macroblocks}
+use Rattle.spec_decoder.specs.Pcm.{aligned, pcm_samples, pcm_typed, pcm_macroblock, is_trailing, pcm_macroblocks}
 use Rattle.spec_stream.proofs.StoredLaws.{ue_25, length-pcm_bits, pcm_bits-whole}
 
 -- the samples of a macroblock: 384 bytes

@@ -8,7 +8,8 @@ use Rattle.spec_bits.specs.Bits.{IsByte}
 use Rattle.spec_film.specs.declared.FilmHead.{FilmHead}
 use Rattle.spec_film.specs.Films.{Planes, AllowedHead}
 use Rattle.spec_stream.specs.Stored.{block_at, macroblock_samples, macroblocks_of, mbs_across, mbs_down}
-use Rattle.spec_stream.specs.Samples.{picture_from, cropped_plane, cropped}
+use Rattle.spec_stream.specs.Samples.{picture_from}
+use Rattle.spec_decoder.specs.Output.{cropped_plane, cropped}
 use Rattle.spec_stream.specs.Pictures.{IsPicture}
 use Rattle.spec_stream.proofs.PcmLaws.{IsMacroblock}
 use Rattle.spec_stream.proofs.PlaneLaws.{HasPlanes, block_long, picture_is, cropped_all}

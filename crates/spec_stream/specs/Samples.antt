@@ -1,6 +1,6 @@
 -- The samples of a picture, from those of its macroblocks.
-use Rattle.std.specs.Prelude.{ℕ, ◌+◌, ◌*◌, ◌/◌, ◌%◌, List, [], map, take, drop, get_or}
-use Rattle.std.specs.List.{range_with_len, flat_map}
+use Rattle.std.specs.Prelude.{ℕ, ◌+◌, ◌*◌, ◌/◌, ◌%◌, List, [], map, get_or}
+use Rattle.std.specs.List.{range_with_len}
 use Rattle.spec_film.specs.Films.{Planes}
 
 -- The sample at place i, in raster scan, of a plane of macroblocks: `across` macroblocks wide, with blocks of `size` rows of `size` samples,
@@ -20,16 +20,4 @@ picture_from across down macroblocks = record {
   luma = plane_from across down 16 0 macroblocks;
   cb = plane_from across down 8 256 macroblocks;
   cr = plane_from across down 8 320 macroblocks;
-}
-
--- the first `columns` samples of each of the first `rows` rows of a plane whose rows have this width
-unfoldable pub cropped_plane : ℕ → ℕ → ℕ → List ℕ → List ℕ
-cropped_plane width columns rows samples = flat_map (λ y. take columns (drop (y * width) samples)) (range_with_len 0 rows)
-
--- the cropping rectangle of so many luma columns and rows, from the upper left corner on (clause 7.4.2.1.1)
-abbrev pub cropped : ℕ → ℕ → ℕ → Planes → Planes
-cropped across width height p = record {
-  luma = cropped_plane (16 * across) width height p.luma;
-  cb = cropped_plane (8 * across) (width / 2) (height / 2) p.cb;
-  cr = cropped_plane (8 * across) (width / 2) (height / 2) p.cr;
 }

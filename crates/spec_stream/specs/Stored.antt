@@ -1,14 +1,15 @@
 -- The bytes of a stored stream: for each picture a sequence parameter set, a picture parameter set and one IDR slice of I_PCM macroblocks.
 use Rattle.std.specs.Prelude.{ℕ, ◌+◌, ◌*◌, ◌/◌, ◌%◌, true, false, Bool, List, [], ◌∷◌, ◌++◌, length, take, drop, map, None}
 use Rattle.std.specs.List.{flat_map, range_with_len}
+use Rattle.spec_basics.specs.Sizes.{in_macroblocks}
 use Rattle.enc_tables.specs.declared.records.SliceKind.TheVariants.{I}
 use Rattle.spec_film.specs.declared.FilmHead.{FilmHead}
 use Rattle.spec_film.specs.Films.{Planes}
-use Rattle.spec_bits.specs.declared.heads.SeqHead.{SeqHead}
-use Rattle.spec_bits.specs.declared.heads.SliceHead.{SliceHead}
+use Rattle.spec_headers.specs.declared.heads.SeqHead.{SeqHead}
+use Rattle.spec_headers.specs.declared.heads.SliceHead.{SliceHead}
 use Rattle.spec_bits.specs.Bits.{digits, bits_of_bytes, bytes_of_bits}
 use Rattle.spec_bits.specs.Golomb.{ue_bits, align_bits}
-use Rattle.spec_bits.specs.Heads.{sequence_payload, picture_payload, slice_head_bits}
+use Rattle.spec_headers.specs.HeadFields.{sequence_payload, picture_payload, slice_head_bits}
 use Rattle.spec_bits.specs.Units.{unit_bytes}
 
 -- in a plane of rows of this width, the samples of `rows` rows from row y on, in each those of `columns` columns from column x on, in raster scan
@@ -33,10 +34,10 @@ pcm_slice_bits before (m ∷ ms) = pcm_bits before m ++ pcm_slice_bits (before +
 
 -- how many macroblocks a picture is wide and high
 abbrev pub mbs_across : FilmHead → ℕ
-mbs_across h = (h.width + 15) / 16
+mbs_across h = in_macroblocks h.width
 
 abbrev pub mbs_down : FilmHead → ℕ
-mbs_down h = (h.height + 15) / 16
+mbs_down h = in_macroblocks h.height
 
 -- the macroblocks of a picture in raster scan
 unfoldable pub macroblocks_of : ℕ → ℕ → Planes → List (List ℕ)

@@ -8,8 +8,9 @@ ghost use Rattle.spec_film.specs.declared.FilmHead.{FilmHead};
 ghost use Rattle.spec_film.specs.Films.{Planes, AllowedHead, film_of};
 ghost use Rattle.spec_stream.specs.Pictures.{IsPicture};
 ghost use Rattle.spec_stream.specs.Stored.{mbs_across, mbs_down, macroblocks_of, stored_slice_head, stored_slice_bits};
-ghost use Rattle.spec_stream.specs.Pcm.{read_pcm_slice};
-ghost use Rattle.spec_stream.specs.Samples.{cropped, picture_from};
+ghost use Rattle.spec_decoder.specs.Pcm.{read_pcm_slice};
+ghost use Rattle.spec_decoder.specs.Output.{cropped};
+ghost use Rattle.spec_stream.specs.Samples.{picture_from};
 
 /// The slice of a stored picture is read back: its header, and the samples of all its macroblocks in order.
 pub fn stored_slices_are_read()

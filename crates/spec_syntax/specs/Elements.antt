@@ -1,6 +1,6 @@
 -- The elements of the macroblock layer in I slices: the bits of each value (ITU-T H.264, clause 9.3.2), and the context of each bin by the bins before it (clause 9.3.3.1, table 9-39). An increment inc is what the macroblocks around say (clause 9.3.3.1.1).
-use Rattle.std.specs.Prelude.{ℕ, zero, suc, ◌+◌, ◌*◌, ◌/◌, ◌%◌, ◌<◌, ◌==◌, Bool, true, false, not, cond, ◌||◌, List, [], ◌∷◌, ◌++◌, Option, Some, None, get_or, length, nat_abs, ◌≤◌, ℤ, pos, negsuc}
-use Rattle.enc_tables.specs.declared.records.MbKind.{MbKind}
+use Rattle.std.specs.Prelude.{ℕ, zero, suc, ◌+◌, ◌*◌, ◌/◌, ◌%◌, ◌<◌, ◌==◌, Bool, true, false, not, cond, List, [], ◌∷◌, ◌++◌, Option, Some, None, get_or, length, nat_abs, ◌≤◌, ℤ, pos, negsuc}
+use Rattle.enc_tables.specs.Kinds.{is_16x16, is_pcm}
 use Rattle.enc_tables.specs.declared.records.MbRecord.{MbRecord}
 use Rattle.spec_syntax.specs.declared.Bin.{Bin}
 use Rattle.spec_syntax.specs.Syntax.{Syntax, done, nothing, ask, at}
@@ -84,26 +84,9 @@ intra_type inc = one_of 7 (type_at inc) [] (with_bits type_bits intra_types)
 unfoldable pub intra_type_string : ℕ → IntraType → List Bin
 intra_type_string inc t = string (type_at inc) [] (type_bits t)
 
--- whether a type is by blocks, by samples, or of the whole macroblock
-abbrev pub is_nxn : MbKind → Bool
-is_nxn MbKind.Intra4 = true
-is_nxn MbKind.Intra8 = true
-is_nxn _ = false
-
-abbrev pub is_pcm : MbKind → Bool
-is_pcm MbKind.Pcm = true
-is_pcm _ = false
-
-abbrev pub is_whole : MbKind → Bool
-is_whole MbKind.Intra16 = true
-is_whole _ = false
-
-abbrev pub is_intra : MbKind → Bool
-is_intra kind = is_nxn kind || is_pcm kind || is_whole kind
-
 -- a record's type. Of a whole macroblock the luma pattern is 15 where luma has AC levels, and else 0
 abbrev pub intra_type_of : MbRecord → IntraType
-intra_type_of mb = cond (is_whole mb.kind) (Whole (get_or mb.modes 0 0) mb.chroma_cbp (not (mb.luma_cbp == 0))) (cond (is_pcm mb.kind) Pcm NxN)
+intra_type_of mb = cond (is_16x16 mb.kind) (Whole (get_or mb.modes 0 0) mb.chroma_cbp (not (mb.luma_cbp == 0))) (cond (is_pcm mb.kind) Pcm NxN)
 
 -- ---- the intra modes
 

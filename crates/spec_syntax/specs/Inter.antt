@@ -1,5 +1,7 @@
 -- The elements of the macroblock layer that P and B slices add: the bits of each value (ITU-T H.264, clause 9.3.2), and the context of each bin (clause 9.3.3.1, table 9-39).
 use Rattle.std.specs.Prelude.{ℕ, zero, suc, ◌+◌, ◌-◌, ◌≤◌, ◌^◌, ◌==◌, Bool, true, false, cond, nat_lt, min, ◌||◌, List, [], ◌∷◌, ◌++◌, map, get_or, nat_abs, ℤ, pos, negsuc}
+use Rattle.enc_tables.specs.Kinds.{is_intra}
+use Rattle.enc_tables.specs.Records.{is_used, no_motion}
 use Rattle.enc_tables.specs.declared.records.SliceKind.{SliceKind}
 use Rattle.enc_tables.specs.declared.records.MbKind.{MbKind}
 use Rattle.enc_tables.specs.declared.records.MbRecord.{MbRecord}
@@ -8,7 +10,7 @@ use Rattle.spec_syntax.specs.declared.Bin.{Bin}
 use Rattle.spec_syntax.specs.declared.ListUse.{ListUse}
 use Rattle.spec_syntax.specs.Syntax.{Syntax, done, ask, ◌>>=◌, at, flag_string}
 use Rattle.spec_syntax.specs.Numbers.{unary, text, prefix, prefix_string, golomb, golomb_string}
-use Rattle.spec_syntax.specs.Elements.{IntraType, IsIntraType, intra_types, intra_type_of, intra_type_string, is_intra, type_bits, string, one_of, with_bits, numbers}
+use Rattle.spec_syntax.specs.Elements.{IntraType, IsIntraType, intra_types, intra_type_of, intra_type_string, type_bits, string, one_of, with_bits, numbers}
 
 -- ---- which macroblocks occur in slices of a kind, beside the skipped ones
 
@@ -185,10 +187,6 @@ sub_type_string u = string sub_at [] (sub_bits u)
 
 -- ---- the types of records
 
-abbrev pub is_used : ℤ → Bool
-is_used (pos n) = true
-is_used (negsuc n) = false
-
 -- which lists a block's motion uses: a reference below 0 is none
 abbrev pub use_from : Bool → Bool → ListUse
 use_from true true = ListUse.Bi
@@ -203,9 +201,6 @@ second_used m = is_used (get_or m.refs 1 (pos 0))
 
 abbrev pub use_of : Motion → ListUse
 use_of m = use_from (first_used m) (second_used m)
-
-abbrev pub no_motion : Motion
-no_motion = record { refs = []; vectors = [] }
 
 abbrev pub block_use : MbRecord → ℕ → ListUse
 block_use mb block = use_of (get_or mb.motion block no_motion)

@@ -1,7 +1,7 @@
 -- The elements of residual blocks (ITU-T H.264, clauses 9.3.2.3, 9.3.3.1.1.9 and 9.3.3.1.3). The category of a block (ctxBlockCat) is 0 for Intra 16x16 DC, 1 for its AC, 2 for luma 4x4, 3 for chroma DC, 4 for chroma AC, 5 for luma 8x8.
 use Rattle.std.specs.Prelude.{ℕ, zero, suc, ◌+◌, ◌-◌, ◌==◌, true, false, cond, List, [], ◌∷◌, ◌++◌, get_or, min, nat_lt}
 use Rattle.spec_syntax.specs.declared.Bin.{Bin}
-use Rattle.spec_syntax.specs.declared.TheConstants.{SIGNIFICANT8, LAST8}
+use Rattle.enc_tables.specs.declared.significance.TheConstants.{SIGNIFICANT8, LAST8}
 use Rattle.spec_syntax.specs.Syntax.{Syntax, done, nothing, ◌>>=◌, bin, at}
 use Rattle.spec_syntax.specs.Numbers.{ones, ones_string, golomb, golomb_string}
 

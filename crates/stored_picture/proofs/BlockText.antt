@@ -7,7 +7,7 @@ use Rattle.std.proofs.Math.Nat.{mul-le-mul_right, mul-le-mul_left, mod-lt, eq-or
 use Rattle.std.specs.List.{All}
 use Rattle.std.proofs.lemmas.List.Elements.{All-nil, All-append}
 use Rattle.spec_bits.specs.Bits.{IsByte, bits_of_bytes, digits}
-use Rattle.spec_bits.specs.Heads.{slice_head_bits}
+use Rattle.spec_headers.specs.HeadFields.{slice_head_bits}
 use Rattle.spec_bits.proofs.Digits.{bits_of_bytes-append, bits_of_bytes-none, length-bits_of_bytes}
 use Rattle.spec_bits.specs.Golomb.{ue_bits, align_bits, to_byte}
 use Rattle.spec_film.specs.Films.{Planes}

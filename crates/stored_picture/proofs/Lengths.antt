@@ -4,12 +4,12 @@ use Rattle.std.specs.Prelude.{◌&&◌, ◌==◌, nat_le}
 use Rattle.std.specs.List.{list_all}
 use Rattle.std.proofs.lemmas.Bool.{leb-true}
 use Rattle.std.proofs.lemmas.Grind.{common_steps}
-use Rattle.spec_bits.specs.declared.heads.Field.{Field}
-use Rattle.spec_bits.specs.declared.heads.Field.TheVariants.{U, Ue, Se}
+use Rattle.spec_bits.specs.declared.fields.Field.{Field}
+use Rattle.spec_bits.specs.declared.fields.Field.TheVariants.{U, Ue, Se}
 use Rattle.spec_bits.specs.Bits.{digits}
 use Rattle.spec_bits.specs.Golomb.{digit_count, ue_bits, se_bits, signed_place, trail_bits}
 use Rattle.spec_bits.specs.Fields.{field_bits, fields_bits}
-use Rattle.spec_bits.specs.Heads.{flag, padding, cropping_fields, usability_fields, sequence_fields, format_fields, place_fields, picture_fields, slice_fields, list_fields, marking_fields, init_fields, slice_head_bits, sequence_payload, picture_payload, payload_of}
+use Rattle.spec_headers.specs.HeadFields.{flag, padding, cropping_fields, usability_fields, sequence_fields, format_fields, place_fields, picture_fields, slice_fields, list_fields, marking_fields, init_fields, slice_head_bits, sequence_payload, picture_payload, payload_of}
 use Rattle.spec_bits.proofs.Digits.{length-digits, length-bytes_of_bits}
 use Rattle.spec_bits.proofs.Codes.{length-trail_bits, trail_whole}
 use Rattle.spec_film.specs.declared.FilmHead.{FilmHead}

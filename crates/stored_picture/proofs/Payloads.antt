@@ -1,10 +1,10 @@
 -- The payloads of parameter sets, and units one behind another.
 use Rattle.std.proofs.Common.{ℕ, ◌+◌, ◌%◌, ◌≡◌, ◌≤◌, List, [], ◌++◌, length, Bool, true, false, Result, refl, ap, sym, ◌∙◌, subst, arith, length-append, append_assoc}
-use Rattle.spec_bits.specs.declared.heads.Field.{Field}
+use Rattle.spec_bits.specs.declared.fields.Field.{Field}
 use Rattle.spec_bits.specs.Bits.{digits, bits_of_bytes, bytes_of_bits}
 use Rattle.spec_bits.specs.Golomb.{trail_bits}
 use Rattle.spec_bits.specs.Fields.{fields_bits}
-use Rattle.spec_bits.specs.Heads.{slice_head_bits, payload_of, sequence_fields, sequence_payload, picture_fields, picture_payload}
+use Rattle.spec_headers.specs.HeadFields.{slice_head_bits, payload_of, sequence_fields, sequence_payload, picture_fields, picture_payload}
 use Rattle.spec_bits.specs.Units.{EndsWell}
 use Rattle.spec_bits.proofs.Codes.{length-trail_bits, trail_whole}
 use Rattle.spec_bits.proofs.Digits.{length-digits, bits_of_bytes-append}

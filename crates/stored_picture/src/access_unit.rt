@@ -1,7 +1,7 @@
 // The access unit that stores a picture.
 ghost use Rattle.std.specs.Prelude.{◌≡◌, ◌≤◌, ◌+◌, ◌*◌, ◌/◌, ◌%◌, ◌++◌, [], false, true, length};
 ghost use Rattle.spec_bits.specs.Bits.{bits_of_bytes, bytes_of_bits};
-ghost use Rattle.spec_bits.specs.Heads.{sequence_payload, picture_payload};
+ghost use Rattle.spec_headers.specs.HeadFields.{sequence_payload, picture_payload};
 ghost use Rattle.spec_bits.specs.Units.{EndsWell, unit_bytes};
 ghost use Rattle.spec_film.specs.Films.{AllowedHead};
 ghost use Rattle.spec_stream.specs.Pictures.{IsPicture};
@@ -11,19 +11,11 @@ ghost use Rattle.stored_picture.specs.Rooms.{payload_most, units_most};
 
 use crate::slice::write_pcm_slice;
 use bit_strings::BitBuf;
+use enc_tables::{HIGHEST_REF_IDC, UNIT_IDR_SLICE, UNIT_PICTURE_SET, UNIT_SEQUENCE_SET};
 use nal_writer::unit;
 use param_sets::{SeqHead, write_pps, write_sps};
 use picture_planes::Picture;
 use spec_film::FilmHead;
-
-// nal_unit_type of the three units (ITU-T H.264, table 7-1), and nal_ref_idc of each.
-const SEQUENCE_SET: u8 = 7;
-
-const PICTURE_SET: u8 = 8;
-
-const IDR_SLICE: u8 = 5;
-
-const REFERENCE: u8 = 3;
 
 /// How many bytes the payload of a unit has at most, without the bytes 03: the room that the payload's buffer needs.
 pub fn payload_bytes(head: &FilmHead) -> u32
@@ -53,7 +45,8 @@ fn append_unit(out: &mut BitBuf, kind: u8, payload: &[u8], long_start: bool)
     ensures whole { length out.new.text % 8 ≡ 0 }
     ensures length { length out.new.text ≤ length out.old.text + 8 * (5 + length payload.now + length payload.now / 2) }
 {
-    let _ = unit(out, REFERENCE, kind, payload, long_start);
+    // There is room, by `room`.
+    let _ = unit(out, HIGHEST_REF_IDC, kind, payload, long_start);
 }
 
 fn append_sequence(units: &mut BitBuf, payload: &mut BitBuf, head: &FilmHead)
@@ -68,6 +61,7 @@ fn append_sequence(units: &mut BitBuf, payload: &mut BitBuf, head: &FilmHead)
     ensures payload_made { payload.new.made ≡ payload.old.made }
 {
     payload.clear();
+    // 4096 bits are room enough for a parameter set.
     let _ = write_sps(
         payload,
         &SeqHead {
@@ -78,8 +72,9 @@ fn append_sequence(units: &mut BitBuf, payload: &mut BitBuf, head: &FilmHead)
             timing: None,
         },
     );
+    // And for its trailing bits.
     let _ = payload.trail();
-    append_unit(units, SEQUENCE_SET, payload.bytes(), true);
+    append_unit(units, UNIT_SEQUENCE_SET, payload.bytes(), true);
 }
 
 fn append_picture_set(units: &mut BitBuf, payload: &mut BitBuf)
@@ -93,9 +88,10 @@ fn append_picture_set(units: &mut BitBuf, payload: &mut BitBuf)
     ensures payload_made { payload.new.made ≡ payload.old.made }
 {
     payload.clear();
+    // 4096 bits are room enough for a parameter set.
     let _ = write_pps(payload, false, false);
     let _ = payload.trail();
-    append_unit(units, PICTURE_SET, payload.bytes(), true);
+    append_unit(units, UNIT_PICTURE_SET, payload.bytes(), true);
 }
 
 fn append_slice(
@@ -120,11 +116,12 @@ fn append_slice(
     let down = (head.height + 15) / 16;
     payload.clear();
     write_pcm_slice(payload, picture, across, down, number);
-    append_unit(units, IDR_SLICE, payload.bytes(), false);
+    append_unit(units, UNIT_IDR_SLICE, payload.bytes(), false);
 }
 
-/// Makes `units` the access unit that stores the picture of this number, counted from 0: a sequence parameter set, a picture parameter set
-/// and one IDR slice of I_PCM macroblocks. `payload` is room for the payload of one unit; what it holds afterwards isn't told.
+/// Makes `units` the access unit that stores the picture of this number, counted from 0: a sequence parameter set, a
+/// picture parameter set and one IDR slice of I_PCM macroblocks. `payload` is room for the payload of one unit; what
+/// it holds afterwards isn't told.
 pub fn write_access_unit(
     units: &mut BitBuf,
     payload: &mut BitBuf,

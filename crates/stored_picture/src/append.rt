@@ -11,6 +11,7 @@ pub fn append(out: &mut BitBuf, n: u8, value: u64)
     requires room { length out.old.text + n ≤ out.old.room }
     ensures { out.new ≡ record out.old { text = out.old.text ++ digits n value } }
 {
+    // There is room, by `room`.
     let _ = out.put(n, value);
 }
 
@@ -19,6 +20,7 @@ pub fn append_ue(out: &mut BitBuf, value: u32)
     requires room { length out.old.text + length (ue_bits value) ≤ out.old.room }
     ensures { out.new ≡ record out.old { text = out.old.text ++ ue_bits value } }
 {
+    // There is room, by `room`.
     let _ = out.ue(value);
 }
 
@@ -26,6 +28,7 @@ pub fn append_zeros_to_byte(out: &mut BitBuf)
     requires room { length out.old.text + to_byte (length out.old.text) ≤ out.old.room }
     ensures { out.new ≡ record out.old { text = out.old.text ++ align_bits (length out.old.text) } }
 {
+    // There is room, by `room`.
     let _ = out.align();
 }
 
@@ -35,5 +38,6 @@ pub fn append_bytes(out: &mut BitBuf, bytes: &[u8])
     ensures text { out.new ≡ record out.old { text = out.old.text ++ bits_of_bytes bytes.now } }
     ensures bytes { All IsByte bytes.now }
 {
+    // There is room, by `room`.
     let _ = out.put_bytes(bytes);
 }

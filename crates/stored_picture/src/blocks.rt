@@ -31,7 +31,8 @@ fn append_block(out: &mut BitBuf, plane: &Plane, size: u32, x: u32, y: u32)
     }
 }
 
-/// Appends macroblock `k` of a picture that is `across` macroblocks wide: its type, zeros to the byte and its samples (clause 7.3.5).
+/// Appends macroblock `k` of a picture that is `across` macroblocks wide: its type, zeros to the byte and its samples
+/// (clause 7.3.5).
 pub fn append_macroblock(out: &mut BitBuf, picture: &Picture, across: u32, k: u32)
     requires picture { InMacroblocks across picture.now }
     requires inside { 16 * (k / across) + 16 ≤ picture.now.y.height }

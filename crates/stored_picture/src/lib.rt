@@ -1,4 +1,5 @@
-//! Writes the access unit that stores a picture: parameter sets, and one IDR slice of I_PCM macroblocks, whose samples are written as they are.
+//! Writes the access unit that stores a picture: parameter sets, and one IDR slice of I_PCM macroblocks, whose
+//! samples are written as they are.
 #![tactic(auto)]
 
 mod access_unit;

@@ -1,7 +1,7 @@
 // The whole slice.
 ghost use Rattle.std.specs.Prelude.{◌≡◌, ◌≤◌, ◌<◌, ◌+◌, ◌*◌, ◌/◌, ◌%◌, ◌^◌, ◌++◌, [], ℕ, length, All};
 ghost use Rattle.spec_bits.specs.Bits.{IsByte};
-ghost use Rattle.spec_bits.specs.Heads.{slice_head_bits};
+ghost use Rattle.spec_headers.specs.HeadFields.{slice_head_bits};
 ghost use Rattle.spec_stream.specs.Stored.{macroblock_samples, stored_slice_bits, stored_slice_head};
 ghost use Rattle.picture_planes.specs.Pictures.{planes_of};
 ghost use Rattle.stored_picture.specs.Sizes.{InMacroblocks};
@@ -33,11 +33,13 @@ fn append_head(out: &mut BitBuf, number: u32)
         qp: 26,
         cabac: false,
     };
+    // There is room for any header, by `room`.
     let _ = write_slice_head(out, &head);
 }
 
-/// Writes the slice that stores the picture of this number, counted from 0: an IDR slice of I_PCM macroblocks over the whole picture
-/// (ITU-T H.264, clauses 7.3.3, 7.3.4 and 7.3.5), with its trailing bits, as a payload without emulation prevention bytes.
+/// Writes the slice that stores the picture of this number, counted from 0: an IDR slice of I_PCM macroblocks over
+/// the whole picture (ITU-T H.264, clauses 7.3.3, 7.3.4 and 7.3.5), with its trailing bits, as a payload without
+/// emulation prevention bytes.
 ///
 /// The buffer is empty and has room: 3088 bits for each macroblock, and 4096 for the rest.
 pub fn write_pcm_slice(out: &mut BitBuf, picture: &Picture, across: u32, down: u32, number: u32)

@@ -6,8 +6,9 @@ use mir.Val.{SFits}
 use Rattle.enc_tables.specs.declared.transform.TheConstants.{CLASS4, SCALING4}
 use Rattle.spec_residual.specs.declared.BlockKind.{BlockKind}
 use Rattle.spec_residual.specs.declared.BlockKind.TheVariants.{Chroma4, Luma4}
-use Rattle.spec_residual.specs.Blocks.{Within}
-use Rattle.spec_residual.specs.Levels.{in_table, level_of, multiplier, rounding, shift, signed_level}
+use Rattle.spec_basics.specs.Bounds.{Within}
+use Rattle.spec_residual.specs.Blocks.{in_table}
+use Rattle.spec_residual.specs.Levels.{level_of, multiplier, rounding, shift, signed_level}
 use Rattle.spec_residual.specs.Rescaled.{rescaled, scaling}
 use Rattle.spec_residual.proofs.Bounds.{times_within, within_more}
 use Rattle.transform_quant.proofs.Counted.{fits_from_within}

@@ -4,7 +4,8 @@ use Rattle.std.proofs.lemmas.Bool.{cases_lt}
 use Rattle.std.proofs.lemmas.Grind.{common_steps, get_or-set_at}
 use Rattle.std.proofs.lemmas.List.{get_or-set_other}
 use Rattle.std.specs.List.{count_by}
-use Rattle.spec_residual.specs.Blocks.{Within, item, is_nonzero, nonzero_levels}
+use Rattle.spec_basics.specs.Bounds.{Within}
+use Rattle.spec_residual.specs.Blocks.{item, is_nonzero, nonzero_levels}
 use Rattle.std.proofs.lemmas.Int.{ints}
 use mir.Val.{SFits}
 

@@ -1,7 +1,8 @@
 -- Two passes of the forward transform of four columns.
 use Rattle.std.proofs.Common.{◌≡◌, ℕ, ℤ, ◌+◌, ◌*◌, ◌<◌, List, length, sym, arith, subst, lit<}
 use Rattle.enc_tables.specs.declared.transform.TheConstants.{FORWARD4}
-use Rattle.spec_residual.specs.Blocks.{Within, AllWithin, item, rows_of}
+use Rattle.spec_basics.specs.Bounds.{Within}
+use Rattle.spec_residual.specs.Blocks.{AllWithin, item, rows_of}
 use Rattle.spec_residual.specs.Forward.{forward4_of}
 use Rattle.spec_residual.proofs.Listed.{is_listed}
 use Rattle.transform_quant.specs.Lines.{row4_by, Turned4, forward4_line}

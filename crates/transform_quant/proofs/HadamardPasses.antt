@@ -2,7 +2,8 @@
 use Rattle.std.proofs.Common.{◌≡◌, ℕ, zero, suc, ℤ, ◌*◌, ◌/◌, ◌%◌, ◌<◌, List, arith, subst, lit<}
 use Rattle.std.proofs.lemmas.Int.{ints}
 use Rattle.enc_tables.specs.declared.transform.TheConstants.{HADAMARD4, HADAMARD2}
-use Rattle.spec_residual.specs.Blocks.{Within, AllWithin, item, block, transformed, rows_of}
+use Rattle.spec_basics.specs.Bounds.{Within}
+use Rattle.spec_residual.specs.Blocks.{AllWithin, item, block, transformed, rows_of}
 use Rattle.transform_quant.specs.Lines.{row4_by, Turned4, hadamard4_line, hadamard2_sums}
 use Rattle.transform_quant.proofs.Sizes.{pass4_within, hadamard4_grows}
 use Rattle.transform_quant.proofs.Two.{two_passes4, hadamard4_left, hadamard4_right}

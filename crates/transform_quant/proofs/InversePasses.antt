@@ -1,7 +1,8 @@
 -- Two passes of the inverse transform of four columns.
 use Rattle.std.proofs.Common.{◌≡◌, ℕ, zero, suc, ℤ, ◌+◌, ◌*◌, ◌/◌, ◌%◌, ◌<◌, List, length, ap, ◌∙◌, arith, lit<}
 use Rattle.std.proofs.lemmas.Int.{ints}
-use Rattle.spec_residual.specs.Blocks.{Within, AllWithin, item, rounded}
+use Rattle.spec_basics.specs.Bounds.{Within}
+use Rattle.spec_residual.specs.Blocks.{AllWithin, item, rounded}
 use Rattle.spec_residual.specs.Inverse.{line4, row4, column4, inverse4_of}
 use Rattle.transform_quant.specs.Lines.{row4_by, Turned4}
 use Rattle.transform_quant.proofs.Columns.{same4}

@@ -2,7 +2,8 @@
 use Rattle.std.proofs.Common.{◌≡◌, ℕ, ℤ, pos, negsuc, ◌+◌, ◌*◌, ◌<◌, ◌+ℤ◌, ◌*ℤ◌, ◌≤ℤ◌, List, length, sym, ap, ◌∙◌, arith, subst}
 use Rattle.std.proofs.lemmas.Int.{ints}
 use Rattle.std.specs.Int.Signed.{shr_z}
-use Rattle.spec_residual.specs.Blocks.{Within, AllWithin, item, listed, rounded}
+use Rattle.spec_basics.specs.Bounds.{Within}
+use Rattle.spec_residual.specs.Blocks.{AllWithin, item, listed, rounded}
 use Rattle.spec_residual.proofs.Listed.{is_listed}
 
 -- s is x / n, rounded down

@@ -1,7 +1,8 @@
 -- How large a line of a transform can be.
 use Rattle.std.proofs.Common.{◌≡◌, ℕ, zero, suc, ℤ, ◌+◌, ◌*◌, ◌/◌, ◌%◌, ◌<◌, ◌≤◌, List, sym, arith, subst}
 use Rattle.std.proofs.lemmas.Int.{ints}
-use Rattle.spec_residual.specs.Blocks.{Within, AllWithin, item}
+use Rattle.spec_basics.specs.Bounds.{Within}
+use Rattle.spec_residual.specs.Blocks.{AllWithin, item}
 use Rattle.transform_quant.specs.Lines.{row4_by, Turned4, forward4_line, hadamard4_line}
 
 -- from items of at most m the lines of g are at most n

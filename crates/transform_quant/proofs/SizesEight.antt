@@ -1,7 +1,8 @@
 -- How large a line of a transform of eight items can be.
 use Rattle.std.proofs.Common.{◌≡◌, ℕ, zero, suc, ℤ, ◌+◌, ◌*◌, ◌/◌, ◌%◌, ◌<◌, ◌≤◌, ◌+ℤ◌, ◌-ℤ◌, List, sym, arith, subst}
 use Rattle.std.proofs.lemmas.Int.{ints}
-use Rattle.spec_residual.specs.Blocks.{Within, AllWithin, item}
+use Rattle.spec_basics.specs.Bounds.{Within}
+use Rattle.spec_residual.specs.Blocks.{AllWithin, item}
 use Rattle.spec_residual.specs.Inverse.{line8, ends8, last8, odd1, odd3, odd5, odd7, half, quarter}
 use Rattle.transform_quant.specs.Lines.{row8_by, Turned8, forward8_line}
 use Rattle.transform_quant.proofs.Shifts.{by_2, by_4}

@@ -2,7 +2,8 @@
 use Rattle.std.proofs.Common.{◌≡◌, ℕ, zero, suc, ℤ, ◌+◌, ◌*◌, ◌/◌, ◌%◌, ◌<◌, ◌*ℤ◌, List, [], ◌∷◌, ap, ◌∙◌, arith, lit<}
 use Rattle.std.proofs.lemmas.Int.{ints}
 use Rattle.enc_tables.specs.declared.transform.TheConstants.{FORWARD4, HADAMARD4}
-use Rattle.spec_residual.specs.Blocks.{item, block, product, transposed, transformed, rows_of, sum_below}
+use Rattle.spec_residual.specs.Blocks.{item, block, product, transposed, transformed, rows_of}
+use Rattle.spec_basics.specs.Sums.{int_sum_below}
 use Rattle.transform_quant.specs.Lines.{row4_by, Turned4, forward4_line, hadamard4_line}
 use Rattle.transform_quant.proofs.Columns.{same4}
 
@@ -11,10 +12,10 @@ pick4 x0 x1 x2 x3 k = item (x0 ∷ x1 ∷ x2 ∷ x3 ∷ []) k
 
 -- the transform g is the product with the rows of c, from the left and from the right
 abbrev pub FromLeft4 : (ℕ → ℕ → ℤ) → (ℤ → ℤ → ℤ → ℤ → List ℤ) → Type 0
-FromLeft4 c g = (x0 x1 x2 x3 : ℤ) (b : ℕ) → b < 4 → item (g x0 x1 x2 x3) b ≡ sum_below 4 (λ k. c b k *ℤ pick4 x0 x1 x2 x3 k)
+FromLeft4 c g = (x0 x1 x2 x3 : ℤ) (b : ℕ) → b < 4 → item (g x0 x1 x2 x3) b ≡ int_sum_below 4 (λ k. c b k *ℤ pick4 x0 x1 x2 x3 k)
 
 abbrev pub FromRight4 : (ℕ → ℕ → ℤ) → (ℤ → ℤ → ℤ → ℤ → List ℤ) → Type 0
-FromRight4 c g = (x0 x1 x2 x3 : ℤ) (b : ℕ) → b < 4 → item (g x0 x1 x2 x3) b ≡ sum_below 4 (λ k. pick4 x0 x1 x2 x3 k *ℤ c b k)
+FromRight4 c g = (x0 x1 x2 x3 : ℤ) (b : ℕ) → b < 4 → item (g x0 x1 x2 x3) b ≡ int_sum_below 4 (λ k. pick4 x0 x1 x2 x3 k *ℤ c b k)
 
 pub two_passes4 : (c : ℕ → ℕ → ℤ) (g : ℤ → ℤ → ℤ → ℤ → List ℤ) → FromLeft4 c g → FromRight4 c g → (x t out : List ℤ) → Turned4 (row4_by g x) t → Turned4 (row4_by g t) out → (p : ℕ) → p < 16 → item out p ≡ transformed 4 c (block 4 x) (p / 4) (p % 4)
 two_passes4 c g left right x t out first second p q =

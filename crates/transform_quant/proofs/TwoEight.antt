@@ -2,7 +2,8 @@
 use Rattle.std.proofs.Common.{◌≡◌, ℕ, zero, suc, ℤ, ◌+◌, ◌*◌, ◌/◌, ◌%◌, ◌<◌, ◌*ℤ◌, List, [], ◌∷◌, ap, ◌∙◌, arith, lit<}
 use Rattle.std.proofs.lemmas.Int.{ints}
 use Rattle.enc_tables.specs.declared.transform.TheConstants.{FORWARD8}
-use Rattle.spec_residual.specs.Blocks.{item, block, product, transposed, transformed, rows_of, sum_below}
+use Rattle.spec_residual.specs.Blocks.{item, block, product, transposed, transformed, rows_of}
+use Rattle.spec_basics.specs.Sums.{int_sum_below}
 use Rattle.transform_quant.specs.Lines.{row8_by, Turned8, forward8_line}
 use Rattle.transform_quant.proofs.Eight.{same8}
 
@@ -11,10 +12,10 @@ pick8 x0 x1 x2 x3 x4 x5 x6 x7 k = item (x0 ∷ x1 ∷ x2 ∷ x3 ∷ x4 ∷ x5 �
 
 -- the transform g is the product with the rows of c, from the left and from the right
 abbrev pub FromLeft8 : (ℕ → ℕ → ℤ) → (ℤ → ℤ → ℤ → ℤ → ℤ → ℤ → ℤ → ℤ → List ℤ) → Type 0
-FromLeft8 c g = (x0 x1 x2 x3 x4 x5 x6 x7 : ℤ) (b : ℕ) → b < 8 → item (g x0 x1 x2 x3 x4 x5 x6 x7) b ≡ sum_below 8 (λ k. c b k *ℤ pick8 x0 x1 x2 x3 x4 x5 x6 x7 k)
+FromLeft8 c g = (x0 x1 x2 x3 x4 x5 x6 x7 : ℤ) (b : ℕ) → b < 8 → item (g x0 x1 x2 x3 x4 x5 x6 x7) b ≡ int_sum_below 8 (λ k. c b k *ℤ pick8 x0 x1 x2 x3 x4 x5 x6 x7 k)
 
 abbrev pub FromRight8 : (ℕ → ℕ → ℤ) → (ℤ → ℤ → ℤ → ℤ → ℤ → ℤ → ℤ → ℤ → List ℤ) → Type 0
-FromRight8 c g = (x0 x1 x2 x3 x4 x5 x6 x7 : ℤ) (b : ℕ) → b < 8 → item (g x0 x1 x2 x3 x4 x5 x6 x7) b ≡ sum_below 8 (λ k. pick8 x0 x1 x2 x3 x4 x5 x6 x7 k *ℤ c b k)
+FromRight8 c g = (x0 x1 x2 x3 x4 x5 x6 x7 : ℤ) (b : ℕ) → b < 8 → item (g x0 x1 x2 x3 x4 x5 x6 x7) b ≡ int_sum_below 8 (λ k. pick8 x0 x1 x2 x3 x4 x5 x6 x7 k *ℤ c b k)
 
 pub two_passes8 : (c : ℕ → ℕ → ℤ) (g : ℤ → ℤ → ℤ → ℤ → ℤ → ℤ → ℤ → ℤ → List ℤ) → FromLeft8 c g → FromRight8 c g → (x t out : List ℤ) → Turned8 (row8_by g x) t → Turned8 (row8_by g t) out → (p : ℕ) → p < 64 → item out p ≡ transformed 8 c (block 8 x) (p / 8) (p % 8)
 two_passes8 c g left right x t out first second p q =

@@ -1,15 +1,15 @@
 // The quantiser and rescaling of whole 4x4 blocks, row by row.
 ghost use Rattle.std.specs.Prelude.{◌≡◌, ◌≤◌, ◌<◌, ◌+◌, ◌*◌, ◌/◌, ◌%◌, ◌^◌, ℕ, pos, ◌*ℤ◌, Bool, slice_index, [], ◌∷◌};
 ghost use Rattle.enc_tables.specs.declared.transform.TheConstants.{CLASS4, SCALING4};
-ghost use Rattle.spec_residual.specs.Blocks.{AllWithin, item};
-ghost use Rattle.spec_residual.specs.Levels.{greatest, in_table, IsMade, level_of, multiplier, places, signed_level};
+ghost use Rattle.spec_residual.specs.Blocks.{AllWithin, item, in_table};
+ghost use Rattle.spec_residual.specs.Levels.{greatest, IsMade, level_of, multiplier, places, signed_level};
 ghost use Rattle.spec_residual.specs.Rescaled.{rescaled};
 ghost use Rattle.spec_residual.specs.declared.BlockKind.TheVariants.{Chroma4, Luma4};
 
-use crate::coef::Coef;
 use crate::quant::{power_of_two, rounding_of, shift_of, signed_level};
 use crate::tables::{multiplier4, scaling4};
 use spec_residual::BlockKind;
+use whole_numbers::Whole;
 
 // For each place, row by row, what belongs to its class.
 #[inline(always)]
@@ -96,7 +96,7 @@ fn products(levels: &[i16; 16], factors: &[u32; 16]) -> [i32; 16]
 {
     let mut out = [0i32; 16];
     for p in 0..16usize {
-        out[p] = Coef::new(levels[p] as i32).scaled(factors[p]).get();
+        out[p] = Whole::new(levels[p] as i32).scaled(factors[p]).get();
     }
     out
 }

@@ -3,9 +3,9 @@ ghost use Rattle.std.specs.Prelude.{◌≡◌, ◌<◌, ℕ};
 ghost use Rattle.spec_residual.specs.Blocks.{AllWithin, item, rounded};
 ghost use Rattle.spec_residual.specs.Forward.{chroma_dc_of, luma_dc_of};
 
-use crate::coef::Coef;
 use crate::edges::{coefs, halves, numbers};
 use crate::hadamard::{hadamard2, hadamard4};
+use whole_numbers::Whole;
 
 /// The second transform of an Intra 16x16 macroblock: half of H·X·Hᵀ, rounded, of the first coefficients of its sixteen
 /// 4x4 blocks, row by row. Its inverse is that of ITU-T H.264, clause 8.5.10.

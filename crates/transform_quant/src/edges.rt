@@ -2,32 +2,32 @@
 ghost use Rattle.std.specs.Prelude.{◌≡◌, ℕ, ◌<◌, ◌+◌, ◌*◌, length};
 ghost use Rattle.spec_residual.specs.Blocks.{AllWithin, item, rounded};
 
-use crate::coef::Coef;
+use whole_numbers::Whole;
 
 #[inline(always)]
-pub fn widened<const N: usize>(r: &[i16; N]) -> [Coef; N]
+pub fn widened<const N: usize>(r: &[i16; N]) -> [Whole; N]
     ensures { result ≡ r.now }
 {
-    let mut out = [Coef::new(0); N];
+    let mut out = [Whole::new(0); N];
     for p in 0..N {
-        out[p] = Coef::new(r[p] as i32);
+        out[p] = Whole::new(r[p] as i32);
     }
     out
 }
 
 #[inline(always)]
-pub fn coefs<const N: usize>(c: &[i32; N]) -> [Coef; N]
+pub fn coefs<const N: usize>(c: &[i32; N]) -> [Whole; N]
     ensures { result ≡ c.now }
 {
-    let mut out = [Coef::new(0); N];
+    let mut out = [Whole::new(0); N];
     for p in 0..N {
-        out[p] = Coef::new(c[p]);
+        out[p] = Whole::new(c[p]);
     }
     out
 }
 
 #[inline(always)]
-pub fn numbers<const N: usize>(x: &[Coef; N]) -> [i32; N]
+pub fn numbers<const N: usize>(x: &[Whole; N]) -> [i32; N]
     requires { AllWithin N 2147483647 x.now }
     ensures { result ≡ x.now }
 {
@@ -40,7 +40,7 @@ pub fn numbers<const N: usize>(x: &[Coef; N]) -> [i32; N]
 
 // The nearest whole numbers to half of each.
 #[inline(always)]
-pub fn halves<const N: usize>(x: &[Coef; N]) -> [i32; N]
+pub fn halves<const N: usize>(x: &[Whole; N]) -> [i32; N]
     requires { AllWithin N 1000000000 x.now }
     ensures { (p : ℕ) → p < N → item result p ≡ rounded 0 (item x.now p) }
 {
@@ -53,7 +53,7 @@ pub fn halves<const N: usize>(x: &[Coef; N]) -> [i32; N]
 
 // The nearest whole numbers to a 64th of each.
 #[inline(always)]
-pub fn sixty_fourths<const N: usize>(x: &[Coef; N]) -> [i32; N]
+pub fn sixty_fourths<const N: usize>(x: &[Whole; N]) -> [i32; N]
     requires { AllWithin N 1000000000 x.now }
     ensures { (p : ℕ) → p < N → item result p ≡ rounded 5 (item x.now p) }
 {

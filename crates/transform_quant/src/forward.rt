@@ -1,16 +1,17 @@
 // The forward transforms.
 ghost use Rattle.std.specs.Prelude.{◌≡◌, ◌≤◌, ◌<◌, ◌+◌, ◌*◌, ℕ, ℤ, pos, ◌+ℤ◌, ◌-ℤ◌, ◌*ℤ◌, length, List, [], ◌∷◌};
-ghost use Rattle.spec_residual.specs.Blocks.{Within, AllWithin, item};
+ghost use Rattle.spec_basics.specs.Bounds.{Within};
+ghost use Rattle.spec_residual.specs.Blocks.{AllWithin, item};
 ghost use Rattle.spec_residual.specs.Forward.{forward4_of};
 ghost use Rattle.transform_quant.specs.Lines.{forward4_line, row4_by, Turned4};
 
-use crate::coef::Coef;
 use crate::edges::{numbers, widened};
 use crate::turn::put_column4;
+use whole_numbers::Whole;
 
 // A row of four through the rows of the 4x4 transform.
 #[inline(always)]
-fn forward4_line(x0: Coef, x1: Coef, x2: Coef, x3: Coef) -> [Coef; 4]
+fn forward4_line(x0: Whole, x1: Whole, x2: Whole, x3: Whole) -> [Whole; 4]
     requires in_0 { Within 100000 x0 }
     requires in_1 { Within 100000 x1 }
     requires in_2 { Within 100000 x2 }
@@ -28,11 +29,11 @@ fn forward4_line(x0: Coef, x1: Coef, x2: Coef, x3: Coef) -> [Coef; 4]
 }
 
 #[inline(always)]
-fn forward4_pass(x: &[Coef; 16]) -> [Coef; 16]
+fn forward4_pass(x: &[Whole; 16]) -> [Whole; 16]
     requires { AllWithin 16 100000 x.now }
     ensures { Turned4 (row4_by forward4_line x.now) result }
 {
-    let mut out = [Coef::new(0); 16];
+    let mut out = [Whole::new(0); 16];
     for i in 0..4usize {
         let k = 4 * i;
         let line = forward4_line(x[k], x[k + 1], x[k + 2], x[k + 3]);

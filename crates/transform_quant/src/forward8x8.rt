@@ -1,15 +1,16 @@
 // The forward 8x8 transform.
 ghost use Rattle.std.specs.Prelude.{◌≡◌, ◌<◌, ◌+◌, ◌*◌, ℕ, ℤ, pos, ◌+ℤ◌, ◌-ℤ◌, ◌*ℤ◌, length, List, [], ◌∷◌};
-ghost use Rattle.spec_residual.specs.Blocks.{Within, AllWithin, item};
+ghost use Rattle.spec_basics.specs.Bounds.{Within};
+ghost use Rattle.spec_residual.specs.Blocks.{AllWithin, item};
 ghost use Rattle.spec_residual.specs.Forward.{forward8_of};
 ghost use Rattle.transform_quant.specs.Lines.{forward8_line, parts8_of, row0_of, row1_of, row2_of, row3_of, row4_of, row5_of, row6_of, row7_of, row8_by, Turned8};
 
-use crate::coef::Coef;
 use crate::edges::{sixty_fourths, widened};
 use crate::turn::put_column8;
+use whole_numbers::Whole;
 
 #[inline(always)]
-fn row0(s0: Coef, s1: Coef, s2: Coef, s3: Coef) -> Coef
+fn row0(s0: Whole, s1: Whole, s2: Whole, s3: Whole) -> Whole
     requires in_0 { Within 200000 s0 }
     requires in_1 { Within 200000 s1 }
     requires in_2 { Within 200000 s2 }
@@ -20,7 +21,7 @@ fn row0(s0: Coef, s1: Coef, s2: Coef, s3: Coef) -> Coef
 }
 
 #[inline(always)]
-fn row1(d0: Coef, d1: Coef, d2: Coef, d3: Coef) -> Coef
+fn row1(d0: Whole, d1: Whole, d2: Whole, d3: Whole) -> Whole
     requires in_0 { Within 200000 d0 }
     requires in_1 { Within 200000 d1 }
     requires in_2 { Within 200000 d2 }
@@ -33,7 +34,7 @@ fn row1(d0: Coef, d1: Coef, d2: Coef, d3: Coef) -> Coef
 }
 
 #[inline(always)]
-fn row2(s0: Coef, s1: Coef, s2: Coef, s3: Coef) -> Coef
+fn row2(s0: Whole, s1: Whole, s2: Whole, s3: Whole) -> Whole
     requires in_0 { Within 200000 s0 }
     requires in_1 { Within 200000 s1 }
     requires in_2 { Within 200000 s2 }
@@ -44,7 +45,7 @@ fn row2(s0: Coef, s1: Coef, s2: Coef, s3: Coef) -> Coef
 }
 
 #[inline(always)]
-fn row3(d0: Coef, d1: Coef, d2: Coef, d3: Coef) -> Coef
+fn row3(d0: Whole, d1: Whole, d2: Whole, d3: Whole) -> Whole
     requires in_0 { Within 200000 d0 }
     requires in_1 { Within 200000 d1 }
     requires in_2 { Within 200000 d2 }
@@ -57,7 +58,7 @@ fn row3(d0: Coef, d1: Coef, d2: Coef, d3: Coef) -> Coef
 }
 
 #[inline(always)]
-fn row4(s0: Coef, s1: Coef, s2: Coef, s3: Coef) -> Coef
+fn row4(s0: Whole, s1: Whole, s2: Whole, s3: Whole) -> Whole
     requires in_0 { Within 200000 s0 }
     requires in_1 { Within 200000 s1 }
     requires in_2 { Within 200000 s2 }
@@ -68,7 +69,7 @@ fn row4(s0: Coef, s1: Coef, s2: Coef, s3: Coef) -> Coef
 }
 
 #[inline(always)]
-fn row5(d0: Coef, d1: Coef, d2: Coef, d3: Coef) -> Coef
+fn row5(d0: Whole, d1: Whole, d2: Whole, d3: Whole) -> Whole
     requires in_0 { Within 200000 d0 }
     requires in_1 { Within 200000 d1 }
     requires in_2 { Within 200000 d2 }
@@ -81,7 +82,7 @@ fn row5(d0: Coef, d1: Coef, d2: Coef, d3: Coef) -> Coef
 }
 
 #[inline(always)]
-fn row6(s0: Coef, s1: Coef, s2: Coef, s3: Coef) -> Coef
+fn row6(s0: Whole, s1: Whole, s2: Whole, s3: Whole) -> Whole
     requires in_0 { Within 200000 s0 }
     requires in_1 { Within 200000 s1 }
     requires in_2 { Within 200000 s2 }
@@ -92,7 +93,7 @@ fn row6(s0: Coef, s1: Coef, s2: Coef, s3: Coef) -> Coef
 }
 
 #[inline(always)]
-fn row7(d0: Coef, d1: Coef, d2: Coef, d3: Coef) -> Coef
+fn row7(d0: Whole, d1: Whole, d2: Whole, d3: Whole) -> Whole
     requires in_0 { Within 200000 d0 }
     requires in_1 { Within 200000 d1 }
     requires in_2 { Within 200000 d2 }
@@ -106,15 +107,15 @@ fn row7(d0: Coef, d1: Coef, d2: Coef, d3: Coef) -> Coef
 
 #[inline(always)]
 fn parts8(
-    s0: Coef,
-    s1: Coef,
-    s2: Coef,
-    s3: Coef,
-    d0: Coef,
-    d1: Coef,
-    d2: Coef,
-    d3: Coef,
-) -> [Coef; 8]
+    s0: Whole,
+    s1: Whole,
+    s2: Whole,
+    s3: Whole,
+    d0: Whole,
+    d1: Whole,
+    d2: Whole,
+    d3: Whole,
+) -> [Whole; 8]
     requires in_s0 { Within 200000 s0 }
     requires in_s1 { Within 200000 s1 }
     requires in_s2 { Within 200000 s2 }
@@ -140,15 +141,15 @@ fn parts8(
 // A row of eight through the rows of the 8x8 transform.
 #[inline(always)]
 fn forward8_line(
-    x0: Coef,
-    x1: Coef,
-    x2: Coef,
-    x3: Coef,
-    x4: Coef,
-    x5: Coef,
-    x6: Coef,
-    x7: Coef,
-) -> [Coef; 8]
+    x0: Whole,
+    x1: Whole,
+    x2: Whole,
+    x3: Whole,
+    x4: Whole,
+    x5: Whole,
+    x6: Whole,
+    x7: Whole,
+) -> [Whole; 8]
     requires in_0 { Within 100000 x0 }
     requires in_1 { Within 100000 x1 }
     requires in_2 { Within 100000 x2 }
@@ -172,11 +173,11 @@ fn forward8_line(
 }
 
 #[inline(always)]
-fn forward8_pass(x: &[Coef; 64]) -> [Coef; 64]
+fn forward8_pass(x: &[Whole; 64]) -> [Whole; 64]
     requires { AllWithin 64 100000 x.now }
     ensures { Turned8 (row8_by forward8_line x.now) result }
 {
-    let mut out = [Coef::new(0); 64];
+    let mut out = [Whole::new(0); 64];
     for i in 0..8usize {
         let k = 8 * i;
         let line = forward8_line(

@@ -1,15 +1,16 @@
 // The inverse transforms.
 ghost use Rattle.std.specs.Prelude.{◌≡◌, ◌<◌, ◌+◌, ◌*◌, ◌/◌, ◌%◌, ℕ, ℤ, pos, ◌+ℤ◌, ◌-ℤ◌, ◌*ℤ◌, ◌≤ℤ◌, length, List, [], ◌∷◌};
-ghost use Rattle.spec_residual.specs.Blocks.{Within, AllWithin, item, rounded};
+ghost use Rattle.spec_basics.specs.Bounds.{Within};
+ghost use Rattle.spec_residual.specs.Blocks.{AllWithin, item, rounded};
 ghost use Rattle.spec_residual.specs.Inverse.{half, quarter, inverse4_of, last4, line4};
 ghost use Rattle.transform_quant.specs.Lines.{row4_by, Turned4};
 
-use crate::coef::Coef;
 use crate::edges::{coefs, sixty_fourths};
 use crate::turn::put_column4;
+use whole_numbers::Whole;
 
 #[inline(always)]
-fn half_less(x: Coef, y: Coef) -> Coef
+fn half_less(x: Whole, y: Whole) -> Whole
     requires in_x { Within 40000000 x }
     requires in_y { Within 40000000 y }
     ensures value { result ≡ half x -ℤ y }
@@ -19,7 +20,7 @@ fn half_less(x: Coef, y: Coef) -> Coef
 }
 
 #[inline(always)]
-fn with_half(x: Coef, y: Coef) -> Coef
+fn with_half(x: Whole, y: Whole) -> Whole
     requires in_x { Within 40000000 x }
     requires in_y { Within 40000000 y }
     ensures value { result ≡ x +ℤ half y }
@@ -29,7 +30,7 @@ fn with_half(x: Coef, y: Coef) -> Coef
 }
 
 #[inline(always)]
-fn sum(x: Coef, y: Coef) -> Coef
+fn sum(x: Whole, y: Whole) -> Whole
     requires in_x { Within 40000000 x }
     requires in_y { Within 40000000 y }
     ensures value { result ≡ x +ℤ y }
@@ -39,7 +40,7 @@ fn sum(x: Coef, y: Coef) -> Coef
 }
 
 #[inline(always)]
-fn difference(x: Coef, y: Coef) -> Coef
+fn difference(x: Whole, y: Whole) -> Whole
     requires in_x { Within 40000000 x }
     requires in_y { Within 40000000 y }
     ensures value { result ≡ x -ℤ y }
@@ -49,7 +50,7 @@ fn difference(x: Coef, y: Coef) -> Coef
 }
 
 #[inline(always)]
-fn last4(e0: Coef, e1: Coef, e2: Coef, e3: Coef) -> [Coef; 4]
+fn last4(e0: Whole, e1: Whole, e2: Whole, e3: Whole) -> [Whole; 4]
     requires in_0 { Within 80000000 e0 }
     requires in_1 { Within 80000000 e1 }
     requires in_2 { Within 80000000 e2 }
@@ -60,7 +61,7 @@ fn last4(e0: Coef, e1: Coef, e2: Coef, e3: Coef) -> [Coef; 4]
 }
 
 #[inline(always)]
-fn inverse4_line(d0: Coef, d1: Coef, d2: Coef, d3: Coef) -> [Coef; 4]
+fn inverse4_line(d0: Whole, d1: Whole, d2: Whole, d3: Whole) -> [Whole; 4]
     requires in_0 { Within 40000000 d0 }
     requires in_1 { Within 40000000 d1 }
     requires in_2 { Within 40000000 d2 }
@@ -76,11 +77,11 @@ fn inverse4_line(d0: Coef, d1: Coef, d2: Coef, d3: Coef) -> [Coef; 4]
 }
 
 #[inline(always)]
-fn inverse4_pass(x: &[Coef; 16]) -> [Coef; 16]
+fn inverse4_pass(x: &[Whole; 16]) -> [Whole; 16]
     requires { AllWithin 16 40000000 x.now }
     ensures { Turned4 (row4_by line4 x.now) result }
 {
-    let mut out = [Coef::new(0); 16];
+    let mut out = [Whole::new(0); 16];
     for i in 0..4usize {
         let k = 4 * i;
         let line = inverse4_line(x[k], x[k + 1], x[k + 2], x[k + 3]);

@@ -1,15 +1,16 @@
 // The inverse 8x8 transform.
 ghost use Rattle.std.specs.Prelude.{◌≡◌, ◌<◌, ◌+◌, ◌*◌, ℕ, ℤ, pos, ◌+ℤ◌, ◌-ℤ◌, ◌*ℤ◌, ◌≤ℤ◌, length, List, [], ◌∷◌};
-ghost use Rattle.spec_residual.specs.Blocks.{Within, AllWithin, item};
+ghost use Rattle.spec_basics.specs.Bounds.{Within};
+ghost use Rattle.spec_residual.specs.Blocks.{AllWithin, item};
 ghost use Rattle.spec_residual.specs.Inverse.{half, quarter, inverse8_of, odd1, odd3, odd5, odd7, ends8, last8, line8};
 ghost use Rattle.transform_quant.specs.Lines.{row8_by, Turned8};
 
-use crate::coef::Coef;
 use crate::edges::{coefs, sixty_fourths};
 use crate::turn::put_column8;
+use whole_numbers::Whole;
 
 #[inline(always)]
-fn odd1(d3: Coef, d5: Coef, d7: Coef) -> Coef
+fn odd1(d3: Whole, d5: Whole, d7: Whole) -> Whole
     requires in_3 { Within 33554432 d3 }
     requires in_5 { Within 33554432 d5 }
     requires in_7 { Within 33554432 d7 }
@@ -21,7 +22,16 @@ fn odd1(d3: Coef, d5: Coef, d7: Coef) -> Coef
 
 // Four sums and four differences.
 #[inline(always)]
-fn ends(f0: Coef, f1: Coef, f2: Coef, f3: Coef, f4: Coef, f5: Coef, f6: Coef, f7: Coef) -> [Coef; 8]
+fn ends(
+    f0: Whole,
+    f1: Whole,
+    f2: Whole,
+    f3: Whole,
+    f4: Whole,
+    f5: Whole,
+    f6: Whole,
+    f7: Whole,
+) -> [Whole; 8]
     requires in_0 { Within 240000000 f0 }
     requires in_1 { Within 240000000 f1 }
     requires in_2 { Within 240000000 f2 }
@@ -45,7 +55,7 @@ fn ends(f0: Coef, f1: Coef, f2: Coef, f3: Coef, f4: Coef, f5: Coef, f6: Coef, f7
 }
 
 #[inline(always)]
-fn odd3(d1: Coef, d3: Coef, d7: Coef) -> Coef
+fn odd3(d1: Whole, d3: Whole, d7: Whole) -> Whole
     requires in_1 { Within 33554432 d1 }
     requires in_3 { Within 33554432 d3 }
     requires in_7 { Within 33554432 d7 }
@@ -56,7 +66,7 @@ fn odd3(d1: Coef, d3: Coef, d7: Coef) -> Coef
 }
 
 #[inline(always)]
-fn odd5(d1: Coef, d5: Coef, d7: Coef) -> Coef
+fn odd5(d1: Whole, d5: Whole, d7: Whole) -> Whole
     requires in_1 { Within 33554432 d1 }
     requires in_5 { Within 33554432 d5 }
     requires in_7 { Within 33554432 d7 }
@@ -67,7 +77,7 @@ fn odd5(d1: Coef, d5: Coef, d7: Coef) -> Coef
 }
 
 #[inline(always)]
-fn odd7(d1: Coef, d3: Coef, d5: Coef) -> Coef
+fn odd7(d1: Whole, d3: Whole, d5: Whole) -> Whole
     requires in_1 { Within 33554432 d1 }
     requires in_3 { Within 33554432 d3 }
     requires in_5 { Within 33554432 d5 }
@@ -78,7 +88,7 @@ fn odd7(d1: Coef, d3: Coef, d5: Coef) -> Coef
 }
 
 #[inline(always)]
-fn with_quarter(x: Coef, y: Coef) -> Coef
+fn with_quarter(x: Whole, y: Whole) -> Whole
     requires in_x { Within 120000000 x }
     requires in_y { Within 120000000 y }
     ensures value { result ≡ x +ℤ quarter y }
@@ -88,7 +98,7 @@ fn with_quarter(x: Coef, y: Coef) -> Coef
 }
 
 #[inline(always)]
-fn less_quarter(x: Coef, y: Coef) -> Coef
+fn less_quarter(x: Whole, y: Whole) -> Whole
     requires in_x { Within 120000000 x }
     requires in_y { Within 120000000 y }
     ensures value { result ≡ x -ℤ quarter y }
@@ -98,7 +108,7 @@ fn less_quarter(x: Coef, y: Coef) -> Coef
 }
 
 #[inline(always)]
-fn quarter_less(x: Coef, y: Coef) -> Coef
+fn quarter_less(x: Whole, y: Whole) -> Whole
     requires in_x { Within 120000000 x }
     requires in_y { Within 120000000 y }
     ensures value { result ≡ quarter x -ℤ y }
@@ -109,7 +119,16 @@ fn quarter_less(x: Coef, y: Coef) -> Coef
 
 // The last stage of a line.
 #[inline(always)]
-fn last(e0: Coef, e1: Coef, e2: Coef, e3: Coef, e4: Coef, e5: Coef, e6: Coef, e7: Coef) -> [Coef; 8]
+fn last(
+    e0: Whole,
+    e1: Whole,
+    e2: Whole,
+    e3: Whole,
+    e4: Whole,
+    e5: Whole,
+    e6: Whole,
+    e7: Whole,
+) -> [Whole; 8]
     requires in_0 { Within 120000000 e0 }
     requires in_1 { Within 120000000 e1 }
     requires in_2 { Within 120000000 e2 }
@@ -133,7 +152,7 @@ fn last(e0: Coef, e1: Coef, e2: Coef, e3: Coef, e4: Coef, e5: Coef, e6: Coef, e7
 }
 
 #[inline(always)]
-fn even(d0: Coef, d2: Coef, d4: Coef, d6: Coef) -> (Coef, Coef, Coef, Coef)
+fn even(d0: Whole, d2: Whole, d4: Whole, d6: Whole) -> (Whole, Whole, Whole, Whole)
     requires in_0 { Within 33554432 d0 }
     requires in_2 { Within 33554432 d2 }
     requires in_4 { Within 33554432 d4 }
@@ -158,15 +177,15 @@ fn even(d0: Coef, d2: Coef, d4: Coef, d6: Coef) -> (Coef, Coef, Coef, Coef)
 // One line of the inverse transform.
 #[inline(always)]
 fn inverse8_line(
-    d0: Coef,
-    d1: Coef,
-    d2: Coef,
-    d3: Coef,
-    d4: Coef,
-    d5: Coef,
-    d6: Coef,
-    d7: Coef,
-) -> [Coef; 8]
+    d0: Whole,
+    d1: Whole,
+    d2: Whole,
+    d3: Whole,
+    d4: Whole,
+    d5: Whole,
+    d6: Whole,
+    d7: Whole,
+) -> [Whole; 8]
     requires in_0 { Within 33554432 d0 }
     requires in_1 { Within 33554432 d1 }
     requires in_2 { Within 33554432 d2 }
@@ -191,11 +210,11 @@ fn inverse8_line(
 }
 
 #[inline(always)]
-fn inverse8_pass(x: &[Coef; 64]) -> [Coef; 64]
+fn inverse8_pass(x: &[Whole; 64]) -> [Whole; 64]
     requires { AllWithin 64 33554432 x.now }
     ensures { Turned8 (row8_by line8 x.now) result }
 {
-    let mut out = [Coef::new(0); 64];
+    let mut out = [Whole::new(0); 64];
     for i in 0..8usize {
         let k = 8 * i;
         let line = inverse8_line(

@@ -2,7 +2,6 @@
 #![tactic(auto)]
 
 mod blocks4;
-mod coef;
 mod dc;
 mod edges;
 mod forward;

@@ -1,6 +1,6 @@
 // The quantiser.
 ghost use Rattle.std.specs.Prelude.{◌≡◌, ◌≤◌, ◌<◌, ◌+◌, ◌*◌, ◌/◌, ◌%◌, ◌^◌};
-ghost use Rattle.spec_residual.specs.Blocks.{Within};
+ghost use Rattle.spec_basics.specs.Bounds.{Within};
 ghost use Rattle.spec_residual.specs.Levels.{greatest, level_of, multiplier, places, rounding, share, shift, signed_level};
 
 use crate::tables::{class4, class8, multiplier4, multiplier8};

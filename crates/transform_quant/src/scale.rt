@@ -1,16 +1,17 @@
 // What a decoder makes of levels.
 ghost use Rattle.std.specs.Prelude.{◌≡◌, ◌≤◌, ◌<◌, ◌+◌, ◌*◌, ◌/◌, ◌%◌, ◌^◌, ℕ, pos, ◌*ℤ◌, Bool};
-ghost use Rattle.spec_residual.specs.Blocks.{AllWithin, Within, item};
+ghost use Rattle.spec_residual.specs.Blocks.{AllWithin, item};
+ghost use Rattle.spec_basics.specs.Bounds.{Within};
 ghost use Rattle.spec_residual.specs.Levels.{IsMade, places};
 ghost use Rattle.spec_residual.specs.declared.BlockKind.TheVariants.{ChromaDc, LumaDc};
 ghost use Rattle.spec_residual.specs.Rescaled.{chroma_dc_rescaled, luma_dc_rescaled, quarter_scaled, rescaled, scaling};
 
-use crate::coef::Coef;
 use crate::edges::widened;
 use crate::hadamard::{hadamard2, hadamard4};
 use crate::quant::power_of_two;
 use crate::tables::{class4, class8, scaling4, scaling8};
 use spec_residual::BlockKind;
+use whole_numbers::Whole;
 
 #[inline(always)]
 #[tactic(auto, unfolding(spec_residual::specs::Rescaled::scaling))]
@@ -30,7 +31,7 @@ fn scaling_of(kind: BlockKind, qp: u8, place: u8) -> u32
 
 // x·factor·2^period
 #[inline(always)]
-fn times(x: Coef, factor: u32, period: u32) -> Coef
+fn times(x: Whole, factor: u32, period: u32) -> Whole
     requires in_x { Within 131056 x }
     requires in_factor { factor ≤ 58 }
     requires in_period { period ≤ 8 }
@@ -42,7 +43,7 @@ fn times(x: Coef, factor: u32, period: u32) -> Coef
 
 // x·factor·2^period / 4, rounded
 #[inline(always)]
-fn quarter_times(x: Coef, factor: u32, period: u32) -> Coef
+fn quarter_times(x: Whole, factor: u32, period: u32) -> Whole
     requires in_x { Within 131056 x }
     requires in_factor { factor ≤ 58 }
     requires in_period { period ≤ 8 }
@@ -59,7 +60,7 @@ fn quarter_times(x: Coef, factor: u32, period: u32) -> Coef
 
 #[inline(always)]
 #[tactic(auto, unfolding(spec_residual::specs::Rescaled::rescaled))]
-fn coefficient(kind: BlockKind, qp: u8, place: u8, x: Coef) -> Coef
+fn coefficient(kind: BlockKind, qp: u8, place: u8, x: Whole) -> Whole
     requires in_range { qp ≤ 51 }
     requires inside { place < places kind }
     requires size { Within 131056 x }
@@ -79,7 +80,7 @@ fn coefficient(kind: BlockKind, qp: u8, place: u8, x: Coef) -> Coef
 
 // What sums of DC levels are rescaled to.
 #[inline(always)]
-fn coefficients<const N: usize>(kind: BlockKind, qp: u8, sums: &[Coef; N]) -> [i32; N]
+fn coefficients<const N: usize>(kind: BlockKind, qp: u8, sums: &[Whole; N]) -> [i32; N]
     requires in_range { qp ≤ 51 }
     requires inside { N ≤ places kind }
     requires few { N ≤ 64 }
@@ -103,7 +104,7 @@ pub fn rescale(kind: BlockKind, qp: u8, place: u8, level: i32) -> i32
     ensures value { result ≡ rescaled kind qp place level }
     ensures small { (intra : Bool) → IsMade kind intra qp place level → Within 1048576 result }
 {
-    coefficient(kind, qp, place, Coef::new(level)).get()
+    coefficient(kind, qp, place, Whole::new(level)).get()
 }
 
 /// The first coefficients of the sixteen 4x4 blocks of an Intra 16x16 macroblock from its DC levels, both row by row

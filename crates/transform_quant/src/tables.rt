@@ -1,7 +1,7 @@
 // Reading the tables.
 ghost use Rattle.std.specs.Prelude.{◌≡◌, ◌≤◌, ◌<◌, ◌+◌, ◌*◌, ◌/◌, ◌%◌, slice_index};
 ghost use Rattle.enc_tables.specs.declared.transform.TheConstants.{CLASS4, CLASS8, MULTIPLIER4, MULTIPLIER8, SCALING4, SCALING8, ZIGZAG4, ZIGZAG8};
-ghost use Rattle.spec_residual.specs.Levels.{in_table};
+ghost use Rattle.spec_residual.specs.Blocks.{in_table};
 
 use enc_tables::{CLASS4, CLASS8, MULTIPLIER4, MULTIPLIER8, SCALING4, SCALING8, ZIGZAG4, ZIGZAG8};
 

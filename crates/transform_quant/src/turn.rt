@@ -2,11 +2,11 @@
 ghost use Rattle.std.specs.Prelude.{◌≡◌, ◌≢◌, ◌<◌, ◌+◌, ◌*◌, ℕ, length};
 ghost use Rattle.spec_residual.specs.Blocks.{item};
 
-use crate::coef::Coef;
+use whole_numbers::Whole;
 
 // Writes a line into column i.
 #[inline(always)]
-pub fn put_column4(out: &mut [Coef; 16], i: usize, line: [Coef; 4])
+pub fn put_column4(out: &mut [Whole; 16], i: usize, line: [Whole; 4])
     requires { i < 4 }
     ensures length { length out.new ≡ 16 }
     ensures column { (b : ℕ) → b < 4 → item out.new (4 * b + i) ≡ item line b }
@@ -19,7 +19,7 @@ pub fn put_column4(out: &mut [Coef; 16], i: usize, line: [Coef; 4])
 
 // Writes a line into column i.
 #[inline(always)]
-pub fn put_column8(out: &mut [Coef; 64], i: usize, line: [Coef; 8])
+pub fn put_column8(out: &mut [Whole; 64], i: usize, line: [Whole; 8])
     requires { i < 8 }
     ensures length { length out.new ≡ 64 }
     ensures column { (b : ℕ) → b < 8 → item out.new (8 * b + i) ≡ item line b }

@@ -1,5 +1,5 @@
 use Rattle.std.proofs.Common.{true}
-use Rattle.spec_bits.specs.Heads.{picture_fields}
+use Rattle.spec_headers.specs.HeadFields.{picture_fields}
 use Rattle.access_unit.proofs.Making.{set_made, length-picture_fields}
 use Rattle.access_unit.proofs.sets.make_picture_set.Goals as goal
 

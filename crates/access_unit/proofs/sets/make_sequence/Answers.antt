@@ -1,5 +1,5 @@
 use Rattle.stored_picture.proofs.Lengths.{length-sequence_fields}
-use Rattle.spec_bits.specs.Heads.{sequence_fields}
+use Rattle.spec_headers.specs.HeadFields.{sequence_fields}
 use Rattle.spec_encoding.specs.Encoding.{sequence_of}
 use Rattle.access_unit.proofs.Making.{set_made}
 use Rattle.access_unit.proofs.sets.make_sequence.Goals as goal

@@ -1,7 +1,7 @@
 use Rattle.std.proofs.Common.{List, ℕ, true, ap, sym, subst, ◌∙◌}
 use Rattle.std.proofs.lemmas.Bool.{false≢true}
 use Rattle.spec_bits.specs.Bits.{bits_of_bytes}
-use Rattle.spec_bits.specs.Heads.{sequence_fields, sequence_payload, picture_fields, picture_payload}
+use Rattle.spec_headers.specs.HeadFields.{sequence_fields, sequence_payload, picture_fields, picture_payload}
 use Rattle.spec_bits.specs.Units.{unit_bytes}
 use Rattle.spec_encoding.specs.Encoding.{sequence_of}
 use Rattle.bit_strings.specs.BitText.{BitText, Appends}

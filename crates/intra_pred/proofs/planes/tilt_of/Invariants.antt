@@ -1,5 +1,5 @@
 use Rattle.std.proofs.Common.{◌≡◌, ◌≤◌, ◌*◌, ◌+◌, ◌-◌, slice_index}
-use Rattle.spec_intra.specs.Slopes.{sum_below}
+use Rattle.spec_basics.specs.Sums.{sum_below}
 use Rattle.intra_pred.proofs.planes.tilt_of.Given as goal
 
 abbrev pub invariant-loop-i : goal.invariant-loop-i

@@ -1,6 +1,7 @@
 use Rattle.std.proofs.Common.{◌≡◌, ◌+◌, ◌*◌, ◌/◌, length, ℕ, arith, take, ap, sym}
-use Rattle.spec_kernels.specs.Sums.{sad}
-use Rattle.lane_kernels.proofs.Chunks.{sad_chunk, sad_one, sad_so_far}
+use Rattle.spec_basics.specs.Sums.{sad}
+use Rattle.lane_kernels.proofs.Chunks.{sad_chunk, sad_so_far}
+use Rattle.spec_basics.proofs.SadLaws.{sad_one}
 use Rattle.lane_kernels.proofs.rows.sad_rows.Goals as goal
 
 -- the sum after one chunk more

@@ -1,5 +1,5 @@
 use Rattle.std.proofs.Common.{◌≡◌, ◌*◌, take}
-use Rattle.spec_kernels.specs.Sums.{sad}
+use Rattle.spec_basics.specs.Sums.{sad}
 use Rattle.lane_kernels.proofs.rows.sad_rows.Given as goal
 
 abbrev pub invariant-loop-k : goal.invariant-loop-k

@@ -1,5 +1,5 @@
 use Rattle.std.proofs.Common.{◌≡◌, ◌≤◌, ◌*◌, slice_index}
-use Rattle.spec_intra.specs.Slopes.{sum_below}
+use Rattle.spec_basics.specs.Sums.{sum_below}
 use Rattle.std.specs.Int.{abs_diff}
 use Rattle.mode_choice.proofs.difference.difference.Given as goal
 

@@ -2,13 +2,14 @@ use Rattle.std.proofs.Common.{◌≡◌, ◌+◌, ◌*◌, ◌/◌, ◌%◌, ℕ
 use Rattle.std.proofs.lemmas.List.{length-set}
 use Rattle.picture_planes.specs.Samples.{samples_of}
 use Rattle.spec_intra.specs.declared.Avail.{Avail}
-use Rattle.spec_intra.specs.Slopes.{sum_below}
+use Rattle.spec_basics.specs.Sums.{sum_below}
 use Rattle.spec_choice.specs.declared.ModeCost.{ModeCost}
 use Rattle.spec_choice.specs.IntraPlans.{best8, best8_of}
 use Rattle.intra_pred.proofs.Filled.{lined_more, lined_all}
 use Rattle.mode_choice.proofs.macroblock.plan8.Goals as goal
 
 sum_more : (f : ℕ → ℕ) (n : ℕ) → sum_below f n + f n ≡ sum_below f (n + 1)
+unfolding sum_below
 sum_more f n = rw add-one refl
 
 pub loop-k-preserved : goal.loop-k-preserved

@@ -1,6 +1,6 @@
 use Rattle.std.proofs.Common.{◌≡◌, ◌≤◌, ◌*◌, length}
 use Rattle.picture_planes.specs.Samples.{samples_of}
-use Rattle.spec_intra.specs.Slopes.{sum_below}
+use Rattle.spec_basics.specs.Sums.{sum_below}
 use Rattle.spec_choice.specs.IntraPlans.{best8_of}
 use Rattle.intra_pred.proofs.Filled.{Lined}
 use Rattle.mode_choice.proofs.macroblock.plan8.Given as goal

@@ -1,6 +1,6 @@
 use Rattle.std.proofs.Common.{arith, drop, []}
 use Rattle.std.proofs.lemmas.Result.{err_from_is_err_and}
-use Rattle.spec_bits.specs.declared.heads.Field.TheVariants.{U}
+use Rattle.spec_bits.specs.declared.fields.Field.TheVariants.{U}
 use Rattle.spec_bits.specs.Fields.{fields_bits}
 use Rattle.param_sets.proofs.Steps.{going_same, going_more, stopped_same, fits_at, field_going, fields_over, going_over, still_fits}
 use Rattle.param_sets.proofs.fields.put_fields.Goals as goal

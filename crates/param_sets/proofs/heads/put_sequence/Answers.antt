@@ -1,7 +1,7 @@
 use Rattle.std.proofs.Common.{◌++◌}
 use Rattle.std.proofs.lemmas.Result.{err_from_is_err_and}
 use Rattle.spec_bits.specs.Fields.{fields_bits}
-use Rattle.spec_bits.specs.Heads.{format_fields, cropping_fields, usability_fields, sequence_fields}
+use Rattle.spec_headers.specs.HeadFields.{format_fields, cropping_fields, usability_fields, sequence_fields}
 use Rattle.param_sets.proofs.Steps.{going_start, going_more, parts, stopped, last_grown}
 use Rattle.param_sets.proofs.heads.put_sequence.Goals as goal
 

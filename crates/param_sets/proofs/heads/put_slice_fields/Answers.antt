@@ -1,7 +1,7 @@
 use Rattle.std.proofs.Common.{◌++◌, [], ◌∷◌}
 use Rattle.std.proofs.lemmas.Result.{err_from_is_err_and}
 use Rattle.spec_bits.specs.Fields.{fields_bits}
-use Rattle.spec_bits.specs.Heads.{place_fields, list_fields, marking_fields, init_fields, qp_field, slice_fields}
+use Rattle.spec_headers.specs.HeadFields.{place_fields, list_fields, marking_fields, init_fields, qp_field, slice_fields}
 use Rattle.param_sets.proofs.Steps.{going_start, going_more, parts, stopped, last_grown}
 use Rattle.param_sets.proofs.heads.put_slice_fields.Goals as goal
 

@@ -3,9 +3,9 @@ use Rattle.std.specs.Prelude.{replicate, true, false, Bool, if◌then◌else◌}
 use Rattle.std.proofs.lemmas.Result.{err_from_is_err_and}
 use Rattle.spec_bits.specs.Golomb.{to_byte}
 use Rattle.spec_bits.specs.Fields.{fields_bits}
-use Rattle.spec_bits.specs.Heads.{slice_fields, slice_head_bits}
+use Rattle.spec_headers.specs.HeadFields.{slice_fields, slice_head_bits}
 use Rattle.std.proofs.Common.{append-nil}
-use Rattle.spec_bits.specs.declared.heads.SliceHead.{SliceHead}
+use Rattle.spec_headers.specs.declared.heads.SliceHead.{SliceHead}
 use Rattle.bit_strings.specs.BitText.{BitText}
 use Rattle.param_sets.proofs.Steps.{Going, going_start, going_same, going_more, stopped, last_grown, grown, same_bits}
 use Rattle.param_sets.proofs.heads.put_slice_head.Goals as goal

@@ -1,8 +1,8 @@
 use Rattle.std.proofs.Common.{◌-◌, ◌++◌, [], ◌∷◌}
 use Rattle.std.proofs.lemmas.Result.{err_from_is_err_and}
-use Rattle.spec_bits.specs.declared.heads.Field.TheVariants.{U, Ue}
+use Rattle.spec_bits.specs.declared.fields.Field.TheVariants.{U, Ue}
 use Rattle.spec_bits.specs.Fields.{fields_bits}
-use Rattle.spec_bits.specs.Heads.{moved_fields}
+use Rattle.spec_headers.specs.HeadFields.{moved_fields}
 use Rattle.param_sets.proofs.Steps.{going_start, going_more, parts, stopped, last_grown}
 use Rattle.param_sets.proofs.heads.put_two_lists.Goals as goal
 

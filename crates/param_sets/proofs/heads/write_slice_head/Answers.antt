@@ -1,5 +1,5 @@
 use Rattle.std.proofs.Common.{sym, ◌∙◌}
-use Rattle.spec_bits.specs.Heads.{slice_head_bits}
+use Rattle.spec_headers.specs.HeadFields.{slice_head_bits}
 use Rattle.param_sets.proofs.Steps.{cut_back, failed, succeeded}
 use Rattle.param_sets.proofs.heads.write_slice_head.Goals as goal
 

@@ -1,6 +1,6 @@
 use Rattle.std.proofs.Common.{sym, ◌∙◌}
 use Rattle.spec_bits.specs.Fields.{fields_bits}
-use Rattle.spec_bits.specs.Heads.{sequence_fields}
+use Rattle.spec_headers.specs.HeadFields.{sequence_fields}
 use Rattle.param_sets.proofs.Steps.{cut_back, failed, succeeded}
 use Rattle.param_sets.proofs.heads.write_sps.Goals as goal
 

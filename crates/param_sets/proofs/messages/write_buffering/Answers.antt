@@ -1,6 +1,6 @@
 use Rattle.std.proofs.Common.{sym, ◌∙◌}
 use Rattle.spec_bits.specs.Fields.{fields_bits}
-use Rattle.spec_bits.specs.Messages.{buffering_fields}
+use Rattle.spec_headers.specs.MessageFields.{buffering_fields}
 use Rattle.param_sets.proofs.Steps.{cut_back, failed, succeeded}
 use Rattle.param_sets.proofs.messages.write_buffering.Goals as goal
 

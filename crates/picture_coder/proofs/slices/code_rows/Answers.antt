@@ -2,10 +2,10 @@ use Rattle.std.proofs.Common.{rules, ◌-◌, ◌*◌, ◌/◌, ℕ, List, Bool,
 use Rattle.picture_planes.specs.declared.picture.Picture.{Picture}
 use Rattle.picture_planes.specs.Pictures.{planes_of}
 use Rattle.spec_film.specs.Films.{Planes}
-use Rattle.spec_slice_layer.specs.Layer.{layer_bits}
-use Rattle.intra_coder.specs.Stripes.{planes_in}
-use Rattle.spec_built.specs.Inter.{no_sources}
-use Rattle.spec_built.specs.Records.{slice_built}
+use Rattle.spec_slice_payload.specs.Writing.{layer_bits}
+use Rattle.residual_coder.specs.Stripes.{planes_in}
+use Rattle.spec_reconstruction.specs.Inter.{no_sources}
+use Rattle.spec_reconstruction.specs.Records.{slice_built}
 use Rattle.slice_coder.specs.Left.{Leaves}
 use Rattle.slice_coder.specs.Plans.{place_of, records_to}
 use Rattle.bit_strings.specs.declared.bit_buf.Full.{Full}

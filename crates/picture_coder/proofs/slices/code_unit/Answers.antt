@@ -3,7 +3,8 @@ use Rattle.picture_planes.specs.Pictures.{planes_of}
 use Rattle.bit_strings.specs.BitText.{BitText, Appends}
 use Rattle.spec_bits.specs.Bits.{bits_of_bytes, bytes_of_bits}
 use Rattle.spec_bits.specs.Units.{unit_bytes, EndsWell}
-use Rattle.spec_slice_layer.specs.Layer.{Slice, layer_bits}
+use Rattle.spec_slice_payload.specs.Layer.{Slice}
+use Rattle.spec_slice_payload.specs.Writing.{layer_bits}
 use Rattle.picture_coder.specs.Pictures.{format_for, slice_at}
 use Rattle.picture_coder.proofs.Sizes.{on_ok}
 use Rattle.picture_coder.proofs.Written.{text_whole, text_ends, text_is_payload, unit_long}

@@ -1,6 +1,6 @@
 use Rattle.std.proofs.Common.{◌*◌, true, refl}
 use Rattle.std.proofs.lemmas.Nat.{mul-le}
-use Rattle.spec_reading.specs.HeadReaders.{idr_head}
+use Rattle.spec_headers.specs.Heads.{idr_head}
 use Rattle.picture_coder.proofs.SliceRows.{head_fits}
 use Rattle.picture_coder.proofs.slices.head_for.Goals as goal
 

@@ -1,6 +1,6 @@
 use Rattle.std.proofs.Common.{◌≡◌, ◌*◌, length, take}
 use Rattle.picture_planes.specs.Samples.{samples_of}
-use Rattle.spec_built.specs.Parts.{block_rows}
+use Rattle.spec_reconstruction.specs.Parts.{block_rows}
 use Rattle.plane_blocks.proofs.reading.read_block.Given as goal
 
 abbrev pub invariant-loop-j : goal.invariant-loop-j

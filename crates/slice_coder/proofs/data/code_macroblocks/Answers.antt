@@ -1,9 +1,9 @@
 use Rattle.std.proofs.Common.{◌<◌, ◌+◌, length, take, arith, refl, ◌∙◌, length-set, length-take-le}
 use Rattle.enc_tables.specs.Steps.{steps}
-use Rattle.intra_coder.specs.Stripes.{planes_in}
+use Rattle.residual_coder.specs.Stripes.{planes_in}
 use Rattle.picture_planes.specs.Pictures.{planes_of}
-use Rattle.spec_built.specs.Records.{slice_built}
-use Rattle.spec_built.specs.Slices.{coded_slice}
+use Rattle.spec_reconstruction.specs.Records.{slice_built}
+use Rattle.spec_reconstruction.specs.Slices.{coded_slice}
 use Rattle.bin_writer.specs.Coding.{seen}
 use Rattle.slice_coder.specs.Strings.{string_at}
 use Rattle.slice_coder.proofs.Going.{opened_none}

@@ -1,8 +1,8 @@
 use Rattle.std.proofs.Common.{◌≡◌, length, take}
-use Rattle.intra_coder.specs.Stripes.{planes_in}
+use Rattle.residual_coder.specs.Stripes.{planes_in}
 use Rattle.picture_planes.specs.Pictures.{SameShapes, planes_of}
-use Rattle.spec_built.specs.Inter.{no_sources}
-use Rattle.spec_built.specs.Records.{slice_built}
+use Rattle.spec_reconstruction.specs.Inter.{no_sources}
+use Rattle.spec_reconstruction.specs.Records.{slice_built}
 use Rattle.bin_writer.specs.Coding.{seen}
 use Rattle.slice_coder.specs.Plans.{records_to}
 use Rattle.slice_coder.specs.Strings.{Opened, string_at}

@@ -1,7 +1,7 @@
 use Rattle.std.proofs.Common.{ℕ, ◌*◌, arith, sym, ap, ◌∙◌, List}
-use Rattle.intra_coder.specs.Stripes.{planes_in}
+use Rattle.residual_coder.specs.Stripes.{planes_in}
 use Rattle.picture_planes.specs.Pictures.{planes_of}
-use Rattle.spec_built.specs.Records.{intra16_record, intra8_record, intra4_record}
+use Rattle.spec_reconstruction.specs.Records.{intra16_record, intra8_record, intra4_record}
 use Rattle.slice_coder.proofs.CodedMb.{modes8_small}
 use Rattle.slice_coder.proofs.Building.{coded16, coded8, coded4}
 use Rattle.slice_coder.proofs.macroblock.code_by_plan.Goals as goal

@@ -1,7 +1,7 @@
 use Rattle.std.proofs.Common.{◌≡◌, ◌<◌, ◌+◌, ◌*◌, ◌/◌, ◌%◌, ℕ, length, arith, ap, subst, ◌∙◌}
 use Rattle.enc_tables.specs.declared.records.MbKind.{MbKind}
-use Rattle.spec_built.specs.Records.{site_of}
-use Rattle.intra_coder.specs.Stripes.{planes_in}
+use Rattle.spec_reconstruction.specs.Records.{site_of}
+use Rattle.residual_coder.specs.Stripes.{planes_in}
 use Rattle.picture_planes.specs.Pictures.{planes_of}
 use Rattle.slice_coder.specs.Plans.{kind_at, plan_at}
 use Rattle.slice_coder.proofs.Shapes.{across_some}

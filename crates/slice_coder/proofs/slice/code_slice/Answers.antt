@@ -1,9 +1,9 @@
 use Rattle.std.proofs.Common.{◌≡◌, ℕ, ◌+◌, ◌*◌, ◌/◌, length, arith, refl, sym, subst, ◌∙◌, Err, []}
 use Rattle.std.proofs.lemmas.Bool.{false≢true}
-use Rattle.intra_coder.specs.Stripes.{planes_in}
+use Rattle.residual_coder.specs.Stripes.{planes_in}
 use Rattle.picture_planes.specs.Pictures.{planes_of}
-use Rattle.spec_bits.specs.Heads.{slice_head_bits}
-use Rattle.spec_slice_layer.proofs.Layers.{idr_layer_back}
+use Rattle.spec_headers.specs.HeadFields.{slice_head_bits}
+use Rattle.spec_slice_payload.proofs.Layers.{idr_layer_back}
 use Rattle.slice_coder.specs.Plans.{HoldsRows, place_of, format_of, coded}
 use Rattle.slice_coder.proofs.Shapes.{slice_ends, some_macroblocks, some_across}
 use Rattle.slice_coder.proofs.Layers.{head_allowed, is_slice_of}
@@ -34,24 +34,24 @@ returns-then-is_err-clause-payload c =
 pub returns-then-is_err-clause-slice : goal.returns-then-is_err-clause-slice
 returns-then-is_err-clause-slice c =
     is_slice_of c.args.source.now c.args.t8x8 c.args.head.now (planes_of c.args.source.now) (planes_in c.args.stripe.now) c.args.rows.0 c.args.rows.1 (length c.args.records.now) c.requires.whole c.requires.rows.0 c.requires.rows.1
-    c.requires.head c.requires.first c.requires.records c.samples_fit.ensures c.stripe_fits.ensures
+    c.requires.head c.requires.first c.requires.records c.lemma_samples_fit.ensures c.lemma_stripe_fits.ensures
 
 pub returns-then-is_err-clause-read_back : goal.returns-then-is_err-clause-read_back
 returns-then-is_err-clause-read_back c =
     idr_layer_back (format_of c.args.source.now c.args.t8x8) [] (coded (place_of c.args.source.now c.args.rows.0 c.args.t8x8) c.args.head.now (planes_of c.args.source.now) (planes_in c.args.stripe.now) (length c.args.records.now))
     (is_slice_of c.args.source.now c.args.t8x8 c.args.head.now (planes_of c.args.source.now) (planes_in c.args.stripe.now) c.args.rows.0 c.args.rows.1 (length c.args.records.now) c.requires.whole c.requires.rows.0 c.requires.rows.1
-    c.requires.head c.requires.first c.requires.records c.samples_fit.ensures c.stripe_fits.ensures)
+    c.requires.head c.requires.first c.requires.records c.lemma_samples_fit.ensures c.lemma_stripe_fits.ensures)
 
 pub returns-clause-slice : goal.returns-clause-slice
 returns-clause-slice c =
     is_slice_of c.args.source.now c.args.t8x8 c.args.head.now (planes_of c.args.source.now) (planes_in c.args.stripe.now) c.args.rows.0 c.args.rows.1 (length c.args.records.now) c.requires.whole c.requires.rows.0 c.requires.rows.1
-    c.requires.head c.requires.first c.requires.records c.samples_fit.ensures c.stripe_fits.ensures
+    c.requires.head c.requires.first c.requires.records c.lemma_samples_fit.ensures c.lemma_stripe_fits.ensures
 
 pub returns-clause-read_back : goal.returns-clause-read_back
 returns-clause-read_back c =
     idr_layer_back (format_of c.args.source.now c.args.t8x8) [] (coded (place_of c.args.source.now c.args.rows.0 c.args.t8x8) c.args.head.now (planes_of c.args.source.now) (planes_in c.args.stripe.now) (length c.args.records.now))
     (is_slice_of c.args.source.now c.args.t8x8 c.args.head.now (planes_of c.args.source.now) (planes_in c.args.stripe.now) c.args.rows.0 c.args.rows.1 (length c.args.records.now) c.requires.whole c.requires.rows.0 c.requires.rows.1
-    c.requires.head c.requires.first c.requires.records c.samples_fit.ensures c.stripe_fits.ensures)
+    c.requires.head c.requires.first c.requires.records c.lemma_samples_fit.ensures c.lemma_stripe_fits.ensures)
 
 pub returns-clause-payload : goal.returns-clause-payload
 returns-clause-payload c =

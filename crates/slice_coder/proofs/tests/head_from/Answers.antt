@@ -1,5 +1,5 @@
 use Rattle.std.proofs.Common.{refl, arith}
-use Rattle.spec_reading.specs.HeadReaders.{idr_head}
+use Rattle.spec_headers.specs.Heads.{idr_head}
 use Rattle.slice_coder.proofs.tests.head_from.Goals as goal
 
 pub returns-clause-idr : goal.returns-clause-idr

@@ -1,6 +1,6 @@
 use Rattle.std.proofs.Common.{◌≤◌, ◌∙◌, ap, sym, subst, length, List, ℕ, true, false, arith}
 use Rattle.spec_bits.specs.Bits.{bits_of_bytes}
-use Rattle.spec_bits.specs.Heads.{picture_fields}
+use Rattle.spec_headers.specs.HeadFields.{picture_fields}
 use Rattle.spec_bits.specs.Units.{unit_bytes}
 use Rattle.bit_strings.specs.BitText.{BitText}
 use Rattle.stored_picture.proofs.BlockText.{with_more}

@@ -1,6 +1,6 @@
 use Rattle.std.proofs.Common.{◌≤◌, ◌∙◌, ap, sym, subst, length, List, ℕ, true, arith}
 use Rattle.spec_bits.specs.Bits.{bits_of_bytes}
-use Rattle.spec_bits.specs.Heads.{sequence_fields}
+use Rattle.spec_headers.specs.HeadFields.{sequence_fields}
 use Rattle.spec_bits.specs.Units.{unit_bytes}
 use Rattle.spec_stream.specs.Stored.{stored_sequence}
 use Rattle.bit_strings.specs.BitText.{BitText}

@@ -1,5 +1,5 @@
 use Rattle.std.proofs.Common.{ap, length, arith}
-use Rattle.spec_bits.specs.Heads.{slice_head_bits}
+use Rattle.spec_headers.specs.HeadFields.{slice_head_bits}
 use Rattle.spec_stream.specs.Stored.{stored_slice_head}
 use Rattle.bit_strings.specs.BitText.{BitText}
 use Rattle.stored_picture.proofs.Fits.{appended_first}

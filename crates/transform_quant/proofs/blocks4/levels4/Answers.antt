@@ -1,5 +1,6 @@
 use Rattle.std.proofs.Common.{ℤ, arith, sym, subst}
-use Rattle.spec_residual.specs.Blocks.{Within, item}
+use Rattle.spec_basics.specs.Bounds.{Within}
+use Rattle.spec_residual.specs.Blocks.{item}
 use Rattle.spec_residual.proofs.Bounds.{multiplier_at_most, rounding_at_most, sizes_fit, level_small}
 use Rattle.transform_quant.proofs.Classes.{levels_are}
 use Rattle.transform_quant.proofs.blocks4.levels4.Goals as goal

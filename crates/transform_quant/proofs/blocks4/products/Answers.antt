@@ -1,5 +1,5 @@
 use Rattle.std.proofs.Common.{ℤ, arith, subst, sym}
-use Rattle.spec_residual.specs.Blocks.{Within}
+use Rattle.spec_basics.specs.Bounds.{Within}
 use Rattle.transform_quant.proofs.Classes.{product_within}
 use Rattle.transform_quant.proofs.blocks4.products.Goals as goal
 

@@ -1,6 +1,7 @@
 use Rattle.std.proofs.Common.{ℤ, sym, subst}
 use Rattle.spec_residual.specs.declared.BlockKind.TheVariants.{Luma4}
-use Rattle.spec_residual.specs.Blocks.{Within, item}
+use Rattle.spec_basics.specs.Bounds.{Within}
+use Rattle.spec_residual.specs.Blocks.{item}
 use Rattle.spec_residual.proofs.Bounds.{rescaled_small}
 use Rattle.transform_quant.proofs.Classes.{luma_scaled, chroma_scaled}
 use Rattle.transform_quant.proofs.blocks4.rescale4.Goals as goal

@@ -1,5 +1,6 @@
 use Rattle.std.proofs.Common.{ℤ, List, arith, sym, ◌∙◌, subst, ap, lit<, lit≤}
-use Rattle.spec_residual.specs.Blocks.{Within, item}
+use Rattle.spec_basics.specs.Bounds.{Within}
+use Rattle.spec_residual.specs.Blocks.{item}
 use Rattle.spec_residual.specs.Forward.{forward4_of}
 use Rattle.transform_quant.proofs.Sizes.{all_within_more, all_within_same}
 use Rattle.transform_quant.proofs.ForwardPasses.{forward4_is, forward4_rows_small, forward4_small, forward4_first_small}

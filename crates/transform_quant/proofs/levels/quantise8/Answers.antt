@@ -4,7 +4,8 @@ use Rattle.std.proofs.lemmas.List.{length-set}
 use mir.Val.{SFits}
 use Rattle.enc_tables.specs.declared.transform.TheConstants.{ZIGZAG8}
 use Rattle.spec_residual.specs.declared.BlockKind.TheVariants.{Luma8}
-use Rattle.spec_residual.specs.Blocks.{Within, item}
+use Rattle.spec_basics.specs.Bounds.{Within}
+use Rattle.spec_residual.specs.Blocks.{item}
 use Rattle.spec_residual.specs.Levels.{level_of, levels8_of}
 use Rattle.spec_residual.proofs.Bounds.{in_row, level_small}
 use Rattle.spec_residual.proofs.Listed.{is_listed}

@@ -1,6 +1,7 @@
 use Rattle.std.proofs.Common.{◌≡◌, ◌<◌, ℕ, ℤ, List, Bool, length, arith, sym, subst}
 use Rattle.spec_residual.specs.declared.BlockKind.TheVariants.{ChromaDc}
-use Rattle.spec_residual.specs.Blocks.{Within, item}
+use Rattle.spec_basics.specs.Bounds.{Within}
+use Rattle.spec_residual.specs.Blocks.{item}
 use Rattle.spec_residual.specs.Levels.{level_of, chroma_dc_levels_of}
 use Rattle.spec_residual.proofs.Bounds.{level_small}
 use Rattle.spec_residual.proofs.Listed.{is_listed}

@@ -2,7 +2,7 @@ use Rattle.std.proofs.Common.{◌≡◌, ℕ, ℤ, arith, ◌∙◌, sym, ap, su
 use Rattle.std.proofs.lemmas.Int.{to_z-of_z}
 use mir.Val.{SFits, to_z, of_z}
 use Rattle.spec_residual.specs.declared.BlockKind.{BlockKind}
-use Rattle.spec_residual.specs.Blocks.{Within}
+use Rattle.spec_basics.specs.Bounds.{Within}
 use Rattle.spec_residual.specs.Levels.{level_of, signed_level, multiplier, rounding, shift}
 use Rattle.spec_residual.proofs.Bounds.{multiplier_at_most, rounding_at_most, sizes_fit, level_small}
 use Rattle.transform_quant.proofs.quant.quantise.Goals as goal

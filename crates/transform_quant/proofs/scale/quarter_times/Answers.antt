@@ -1,6 +1,6 @@
 use Rattle.std.proofs.Common.{◌≡◌, ◌≤◌, ◌^◌, ◌-◌, ℕ, ℤ, pos, ◌*ℤ◌, arith, lit≤, lit<}
 use Rattle.std.proofs.Math.Nat.{pow-le-pow_right}
-use Rattle.spec_residual.specs.Blocks.{Within}
+use Rattle.spec_basics.specs.Bounds.{Within}
 use Rattle.spec_residual.proofs.Bounds.{within_more, times_within}
 use Rattle.transform_quant.proofs.scale.quarter_times.Goals as goal
 

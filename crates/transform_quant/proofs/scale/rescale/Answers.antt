@@ -1,7 +1,7 @@
 use Rattle.std.proofs.Common.{ℤ, ◌∙◌, sym, ap, subst, w32}
 use Rattle.std.proofs.lemmas.Int.{to_z-of_z}
 use mir.Val.{SFits}
-use Rattle.spec_residual.specs.Blocks.{Within}
+use Rattle.spec_basics.specs.Bounds.{Within}
 use Rattle.spec_residual.specs.Rescaled.{rescaled}
 use Rattle.spec_residual.proofs.Bounds.{rescaled_small}
 use Rattle.transform_quant.proofs.scale.rescale.Goals as goal

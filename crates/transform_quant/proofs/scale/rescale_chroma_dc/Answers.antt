@@ -1,7 +1,8 @@
 use Rattle.std.proofs.Common.{◌≡◌, ◌≤◌, ◌<◌, ◌*◌, ◌/◌, ◌%◌, ℕ, ℤ, List, Bool, length, arith, ◌∙◌, sym, ap, subst, lit<, lit≤}
 use Rattle.enc_tables.specs.declared.transform.TheConstants.{HADAMARD2}
 use Rattle.spec_residual.specs.declared.BlockKind.TheVariants.{ChromaDc}
-use Rattle.spec_residual.specs.Blocks.{AllWithin, Within, item, block, rows_of, transformed}
+use Rattle.spec_residual.specs.Blocks.{AllWithin, item, block, rows_of, transformed}
+use Rattle.spec_basics.specs.Bounds.{Within}
 use Rattle.spec_residual.specs.Levels.{IsMade}
 use Rattle.spec_residual.specs.Rescaled.{rescaled, chroma_dc_rescaled}
 use Rattle.spec_residual.proofs.Bounds.{top_level, made_within, chroma_dc_sum_small, chroma_dc_top_level}

@@ -1,7 +1,8 @@
 use Rattle.std.proofs.Common.{◌≡◌, ◌≤◌, ◌<◌, ◌*◌, ◌/◌, ◌%◌, ℕ, ℤ, List, Bool, length, arith, ◌∙◌, sym, ap, subst, lit<, lit≤}
 use Rattle.enc_tables.specs.declared.transform.TheConstants.{HADAMARD4}
 use Rattle.spec_residual.specs.declared.BlockKind.TheVariants.{LumaDc}
-use Rattle.spec_residual.specs.Blocks.{AllWithin, Within, item, block, rows_of, transformed}
+use Rattle.spec_residual.specs.Blocks.{AllWithin, item, block, rows_of, transformed}
+use Rattle.spec_basics.specs.Bounds.{Within}
 use Rattle.spec_residual.specs.Levels.{IsMade}
 use Rattle.spec_residual.specs.Rescaled.{rescaled, luma_dc_rescaled}
 use Rattle.spec_residual.proofs.Bounds.{top_level, made_within, luma_dc_sum_small, luma_dc_top_level}

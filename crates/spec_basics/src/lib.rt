@@ -1,0 +1,2 @@
+//! What all other definitions speak in: sums, bounds, clipping, decimal digits, sizes in macroblocks, and the order of blocks.
+#![tactic(auto)]

@@ -1,0 +1,6 @@
+pub mod HeadLaws
+pub mod OtherHeads
+pub mod AllHeads
+pub mod MessageLaws
+mod WrittenExamples
+mod Examples

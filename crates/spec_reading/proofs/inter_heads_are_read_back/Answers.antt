@@ -1,8 +1,0 @@
-use Rattle.spec_reading.proofs.OtherHeads.{reads_p, reads_b}
-use Rattle.spec_reading.proofs.inter_heads_are_read_back.Goals as goal
-
-pub returns-clause-p : goal.returns-clause-p
-returns-clause-p c = reads_p
-
-pub returns-clause-b : goal.returns-clause-b
-returns-clause-b c = reads_b

@@ -1,0 +1,2 @@
+pub mod Rebuilt
+mod Examples

@@ -1,0 +1,12 @@
+pub mod Bytes
+pub mod Predicted
+pub mod Sums
+pub mod Built
+pub mod Pattern
+pub mod Levels
+pub mod Chosen
+pub mod Whole
+pub mod Plans
+pub mod Filtered
+pub mod Allowed
+pub mod AllowedModes

@@ -1,4 +1,0 @@
-pub mod Decoded
-pub mod Strings
-pub mod Slices
-pub mod Rows

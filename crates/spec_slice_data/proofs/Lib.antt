@@ -1,0 +1,4 @@
+pub mod Decoded
+pub mod Strings
+pub mod Slices
+pub mod Examples

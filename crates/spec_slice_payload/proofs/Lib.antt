@@ -1,0 +1,6 @@
+pub mod Examples
+pub mod Layers
+pub mod Growing
+pub mod Carried
+pub mod InRange
+pub mod Allowed

@@ -1,0 +1,5 @@
+pub mod Allowed
+pub mod Layer
+pub mod Reading
+pub mod Writing
+pub mod Slices
