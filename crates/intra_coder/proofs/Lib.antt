@@ -1,10 +1,6 @@
-pub mod PartLaws
-pub mod BlockLaws
 pub mod StripeLaws
 pub mod Standing
-pub mod InOrderLaws
 pub mod LumaLaws
-pub mod ZeroLaws
 pub mod Luma16Laws
 pub mod ChromaLaws
 pub mod MacroblockLaws

@@ -1,6 +1,7 @@
 -- Blocks of Intra_16x16 macroblocks, step by step.
 use Rattle.std.proofs.Common.{◌≡◌, ◌+◌, ◌*◌, ℕ, ℤ, true, List, ap, ap₂, ◌∙◌}
-use Rattle.spec_intra.specs.Near.{block_column, block_row, plane_sample, neighbours16}
+use Rattle.spec_basics.specs.Blocks.{block_column, block_row}
+use Rattle.spec_intra.specs.Near.{plane_sample, neighbours16}
 use Rattle.spec_intra.specs.declared.Nb16.{Nb16}
 use Rattle.intra_coder.specs.Made.{others16}
 use Rattle.spec_intra.specs.Predictions.{predicted16}
@@ -9,11 +10,11 @@ use Rattle.spec_residual.specs.Blocks.{item}
 use Rattle.spec_residual.specs.Forward.{luma_dc_of}
 use Rattle.spec_residual.specs.Levels.{levels4_of}
 use Rattle.spec_residual.specs.Rescaled.{luma_dc_rescaled}
-use Rattle.spec_built.specs.declared.Site.{Site}
-use Rattle.spec_built.specs.Parts.{block_at, with_block}
-use Rattle.spec_built.specs.Residuals.{built_with_dc, spectrum4, levels_without_dc}
-use Rattle.spec_built.specs.InOrder.{joined, levels_of_block, built_in_order}
-use Rattle.spec_built.specs.Luma.{part16, place16, prediction16, build16, spectrum16, firsts16, luma16_built, luma16_dc, luma16_levels, unscanned}
+use Rattle.spec_reconstruction.specs.declared.Site.{Site}
+use Rattle.spec_reconstruction.specs.Parts.{block_at, with_block}
+use Rattle.spec_reconstruction.specs.Residuals.{built_with_dc, spectrum4, levels_without_dc}
+use Rattle.spec_reconstruction.specs.InOrder.{joined, levels_of_block, built_in_order}
+use Rattle.spec_reconstruction.specs.Luma.{part16, place16, prediction16, build16, spectrum16, firsts16, luma16_built, luma16_dc, luma16_levels, unscanned}
 
 module _ (wide : ℕ) (site : Site) where
   pub spectrum16_is : (source prediction : List ℕ) (b column row : ℕ) (original part : List ℕ) (c : List ℤ) → column ≡ block_column b → row ≡ block_row b

@@ -3,16 +3,17 @@ use Rattle.std.proofs.Common.{◌≡◌, ◌+◌, ◌*◌, ◌/◌, ◌%◌, ℕ
 use Rattle.spec_intra.specs.declared.Avail.{Avail}
 use Rattle.spec_intra.specs.declared.Nb4.{Nb4}
 use Rattle.spec_intra.specs.declared.Nb8.{Nb8}
-use Rattle.spec_intra.specs.Near.{block_column, block_row, block_avail, plane_sample, neighbours4, neighbours8}
+use Rattle.spec_basics.specs.Blocks.{block_column, block_row}
+use Rattle.spec_intra.specs.Near.{block_avail, plane_sample, neighbours4, neighbours8}
 use Rattle.spec_intra.specs.Predictions.{predicted4, predicted8}
-use Rattle.spec_built.specs.declared.Site.{Site}
-use Rattle.spec_built.specs.Parts.{block_at, with_block}
-use Rattle.spec_built.specs.Residuals.{built4, built8, luma_levels4, luma_levels8}
-use Rattle.spec_built.specs.InOrder.{built_in_order, coded_in_order, levels_in_order}
-use Rattle.spec_built.specs.Luma.{x8, y8, prediction4, prediction8, build4, build8, choose4, choose8, luma4_built, luma4_levels, luma8_built, luma8_levels}
+use Rattle.spec_reconstruction.specs.declared.Site.{Site}
+use Rattle.spec_reconstruction.specs.Parts.{block_at, with_block}
+use Rattle.spec_reconstruction.specs.Residuals.{built4, built8, luma_levels4, luma_levels8}
+use Rattle.spec_reconstruction.specs.InOrder.{built_in_order, coded_in_order, levels_in_order}
+use Rattle.spec_reconstruction.specs.Luma.{x8, y8, prediction4, prediction8, build4, build8, choose4, choose8, luma4_built, luma4_levels, luma8_built, luma8_levels}
 use Rattle.spec_residual.proofs.Listed.{length-listed}
 use Rattle.spec_residual.specs.Levels.{levels4_of, levels8_of}
-use Rattle.spec_built.proofs.Rebuilt.{rebuilt}
+use Rattle.spec_reconstruction.proofs.Rebuilt.{rebuilt}
 
 module _ (wide : ℕ) (site : Site) (modes : List ℕ) (b : ℕ) where
   pub prediction4_is : (plane : List ℕ) (column row : ℕ) (avail : Avail) (near : Nb4) (p : List ℕ) → column ≡ block_column b → row ≡ block_row b

@@ -1,46 +1,13 @@
 -- Whole intra macroblocks, part by part.
-use Rattle.std.proofs.Common.{◌≡◌, ◌+◌, ◌/◌, ◌∷◌, ◌++◌, ℕ, ℤ, pos, true, false, List, [], length, take, drop, replicate, sym, ap, ap₂, ◌∙◌, arith, append-nil}
-use Rattle.std.proofs.lemmas.Grind.{common_steps}
+use Rattle.std.proofs.Common.{◌≡◌, ◌+◌, ◌/◌, ◌∷◌, ◌++◌, ℕ, ℤ, pos, true, false, List, take, drop, replicate, sym, ap, ap₂, ◌∙◌, arith}
 use Rattle.enc_tables.specs.declared.records.MbKind.TheVariants as kinds
 use Rattle.enc_tables.specs.declared.records.MbRecord.{MbRecord}
 use Rattle.spec_contexts.specs.Increments.{some_level}
 use Rattle.spec_film.specs.Films.{Planes}
-use Rattle.spec_residual.specs.Levels.{levels4_of, chroma_dc_levels_of}
-use Rattle.spec_residual.proofs.Listed.{length-listed}
-use Rattle.spec_built.specs.declared.Site.{Site}
-use Rattle.spec_built.specs.Residuals.{levels_without_dc}
-use Rattle.spec_built.specs.Luma.{luma4_built, luma4_levels, luma8_built, luma8_levels, luma16_built, luma16_dc, luma16_levels}
-use Rattle.spec_built.specs.Chroma.{chroma_built, chroma_dc, chroma_ac}
-use Rattle.spec_built.specs.Records.{luma_built, intra_built, luma_pattern, bit_if, intra_record, both_dc, both_ac, intra4_record, intra8_record, intra16_record}
-use Rattle.spec_built.proofs.Rebuilt.{length-joined}
-
--- a second half written over zeros
-pub levels_beside : (n : ℕ) (u v zeros first second : List ℤ) → u ≡ first → v ≡ second → length first ≡ n → length zeros ≡ n
-    → take n (u ++ zeros) ++ (v ++ drop n (drop n (u ++ zeros))) ≡ first ++ second
-levels_beside n u v zeros first second e f h k =
-    let long : length u ≡ n = ap (λ (l : List ℤ). length l) e ∙ h in
-    let front : take n (u ++ zeros) ≡ u = grind (arith, common_steps) in
-    let back : drop n (drop n (u ++ zeros)) ≡ [] = grind (arith, common_steps) in
-    ap₂ (λ (a b : List ℤ). a ++ (v ++ b)) front back
-    ∙ ap (λ (l : List ℤ). u ++ l) (append-nil v)
-    ∙ ap₂ (λ (a b : List ℤ). a ++ b) e f
-
-dc_long : (wide : ℕ) (site : Site) (mode : ℕ) (source plane : List ℕ) → length (chroma_dc wide site mode source plane) ≡ 4
-unfolding chroma_dc chroma_dc_levels_of
-dc_long wide site mode source plane = length-listed 4 _
-
-ac_long : (wide : ℕ) (site : Site) (mode : ℕ) (source plane : List ℕ) → length (chroma_ac wide site mode source plane) ≡ 60
-unfolding chroma_ac levels_without_dc levels4_of
-ac_long wide site mode source plane = length-joined _ 15 4 (λ b. fifteen _ (length-listed 16 _))
-  where
-    fifteen : (block : List ℤ) → length block ≡ 16 → length (drop 1 block) ≡ 15
-    fifteen block long = grind (arith, common_steps)
-
-front_of : (n : ℕ) (both first second : List ℤ) → both ≡ first ++ second → length first ≡ n → take n both ≡ first
-front_of n both first second e h = ap (λ (l : List ℤ). take n l) e ∙ (let k : take n (first ++ second) ≡ first = grind (arith, common_steps) in k)
-
-back_of : (n : ℕ) (both first second : List ℤ) → both ≡ first ++ second → length first ≡ n → drop n both ≡ second
-back_of n both first second e h = ap (λ (l : List ℤ). drop n l) e ∙ (let k : drop n (first ++ second) ≡ second = grind (arith, common_steps) in k)
+use Rattle.spec_reconstruction.specs.declared.Site.{Site}
+use Rattle.spec_reconstruction.specs.Luma.{luma4_built, luma4_levels, luma8_built, luma8_levels, luma16_built, luma16_dc, luma16_levels}
+use Rattle.spec_reconstruction.specs.Chroma.{chroma_built, chroma_dc, chroma_ac}
+use Rattle.spec_reconstruction.specs.Records.{luma_built, intra_built, luma_pattern, bit_if, intra_record, both_dc, both_ac, intra4_record, intra8_record, intra16_record}
 
 abbrev three : List ℕ → List ℕ → List ℕ → Planes
 three l b r = record { luma = l; cb = b; cr = r }
@@ -53,35 +20,22 @@ pub record Components (wide : ℕ) (site : Site) (mode : ℕ) (source planes : P
   pub cr_is : cr ≡ chroma_built (wide / 2) site mode (drop 4 dc) (drop 60 ac) planes.cr
 
 module _ (wide : ℕ) (site : Site) (mode : ℕ) (source planes : Planes) where
-  components : (dc ac dc0 ac0 dc1 ac1 : List ℤ) (cb cr : List ℕ) → dc ≡ dc0 ++ dc1 → ac ≡ ac0 ++ ac1
-      → dc0 ≡ chroma_dc (wide / 2) site mode source.cb planes.cb → ac0 ≡ chroma_ac (wide / 2) site mode source.cb planes.cb
-      → dc1 ≡ chroma_dc (wide / 2) site mode source.cr planes.cr → ac1 ≡ chroma_ac (wide / 2) site mode source.cr planes.cr
-      → cb ≡ chroma_built (wide / 2) site mode dc0 ac0 planes.cb → cr ≡ chroma_built (wide / 2) site mode dc1 ac1 planes.cr
+  -- at the widths of the planes of the components
+  pub components_at : (wide_cb wide_cr : ℕ) (dc ac : List ℤ) (cb cr : List ℕ) → wide_cb + wide_cb ≡ wide → wide_cr + wide_cr ≡ wide
+      → dc ≡ chroma_dc wide_cb site mode source.cb planes.cb ++ chroma_dc wide_cr site mode source.cr planes.cr
+      → ac ≡ chroma_ac wide_cb site mode source.cb planes.cb ++ chroma_ac wide_cr site mode source.cr planes.cr
+      → cb ≡ chroma_built wide_cb site mode (take 4 dc) (take 60 ac) planes.cb → cr ≡ chroma_built wide_cr site mode (drop 4 dc) (drop 60 ac) planes.cr
       → Components wide site mode source planes dc ac cb cr
   unfolding both_dc both_ac
-  components dc ac dc0 ac0 dc1 ac1 cb cr e f d0 a0 d1 a1 b r =
-      let four : length dc0 ≡ 4 = ap (λ (l : List ℤ). length l) d0 ∙ dc_long (wide / 2) site mode source.cb planes.cb in
-      let sixty : length ac0 ≡ 60 = ap (λ (l : List ℤ). length l) a0 ∙ ac_long (wide / 2) site mode source.cb planes.cb in
-      record {
-        dc_is = e ∙ ap₂ (λ (a b : List ℤ). a ++ b) d0 d1;
-        ac_is = f ∙ ap₂ (λ (a b : List ℤ). a ++ b) a0 a1;
-        cb_is = b ∙ ap₂ (λ (d a : List ℤ). chroma_built (wide / 2) site mode d a planes.cb) (sym (front_of 4 dc dc0 dc1 e four)) (sym (front_of 60 ac ac0 ac1 f sixty));
-        cr_is = r ∙ ap₂ (λ (d a : List ℤ). chroma_built (wide / 2) site mode d a planes.cr) (sym (back_of 4 dc dc0 dc1 e four)) (sym (back_of 60 ac ac0 ac1 f sixty));
-      }
-
-  -- at the widths of the planes of the components
-  pub components_at : (wide_cb wide_cr : ℕ) (dc ac dc0 ac0 dc1 ac1 : List ℤ) (cb cr : List ℕ) → wide_cb + wide_cb ≡ wide → wide_cr + wide_cr ≡ wide → dc ≡ dc0 ++ dc1 → ac ≡ ac0 ++ ac1
-      → dc0 ≡ chroma_dc wide_cb site mode source.cb planes.cb → ac0 ≡ chroma_ac wide_cb site mode source.cb planes.cb
-      → dc1 ≡ chroma_dc wide_cr site mode source.cr planes.cr → ac1 ≡ chroma_ac wide_cr site mode source.cr planes.cr
-      → cb ≡ chroma_built wide_cb site mode dc0 ac0 planes.cb → cr ≡ chroma_built wide_cr site mode dc1 ac1 planes.cr
-      → Components wide site mode source planes dc ac cb cr
-  components_at wide_cb wide_cr dc ac dc0 ac0 dc1 ac1 cb cr h k e f d0 a0 d1 a1 b r =
+  components_at wide_cb wide_cr dc ac cb cr h k e f b r =
       let w : wide_cb ≡ wide / 2 = omega arith in
       let v : wide_cr ≡ wide / 2 = omega arith in
-      components dc ac dc0 ac0 dc1 ac1 cb cr e f
-      (d0 ∙ ap (λ (n : ℕ). chroma_dc n site mode source.cb planes.cb) w) (a0 ∙ ap (λ (n : ℕ). chroma_ac n site mode source.cb planes.cb) w)
-      (d1 ∙ ap (λ (n : ℕ). chroma_dc n site mode source.cr planes.cr) v) (a1 ∙ ap (λ (n : ℕ). chroma_ac n site mode source.cr planes.cr) v)
-      (b ∙ ap (λ (n : ℕ). chroma_built n site mode dc0 ac0 planes.cb) w) (r ∙ ap (λ (n : ℕ). chroma_built n site mode dc1 ac1 planes.cr) v)
+      record {
+        dc_is = e ∙ ap₂ (λ (m n : ℕ). chroma_dc m site mode source.cb planes.cb ++ chroma_dc n site mode source.cr planes.cr) w v;
+        ac_is = f ∙ ap₂ (λ (m n : ℕ). chroma_ac m site mode source.cb planes.cb ++ chroma_ac n site mode source.cr planes.cr) w v;
+        cb_is = b ∙ ap (λ (n : ℕ). chroma_built n site mode (take 4 dc) (take 60 ac) planes.cb) w;
+        cr_is = r ∙ ap (λ (n : ℕ). chroma_built n site mode (drop 4 dc) (drop 60 ac) planes.cr) v;
+      }
 
   pub intra4_is : (modes : List ℕ) (luma dc ac : List ℤ) (pattern : ℕ) (cb cr : List ℕ) (mb : MbRecord) → luma ≡ luma4_levels wide site modes source.luma planes.luma → pattern ≡ luma_pattern luma → Components wide site mode source planes dc ac cb cr
       → mb ≡ intra_record kinds.Intra4 false modes mode site.qp pattern (replicate 16 (pos 0)) luma dc ac → mb ≡ intra4_record wide site modes mode source planes

@@ -2,14 +2,16 @@
 use Rattle.std.proofs.Common.{◌≡◌, ◌≤◌, ◌<◌, ◌+◌, ◌-◌, ◌*◌, ◌/◌, ◌%◌, ◌||◌, ◌&&◌, ℕ, zero, suc, Bool, true, false, cond, nat_lt, nat_le, not, ◌==◌, refl, sym, ap, ◌∙◌, arith, inl, inr, lit<}
 use Rattle.std.proofs.Math.Nat.{mul-le-mul_left, add-mul-mod_self_right}
 use Rattle.std.proofs.lemmas.Nat.{le-div}
-use Rattle.spec_built.specs.Records.{site_of}
+use Rattle.spec_reconstruction.specs.Records.{site_of}
 use Rattle.std.proofs.lemmas.Bool.{cases_lt}
 use Rattle.std.proofs.lemmas.Bool.Decides.{nat_tests}
 use Rattle.picture_planes.specs.declared.plane.Plane.{Plane}
-use Rattle.spec_intra.specs.Near.{block_column, block_row, block_number, block_avail}
-use Rattle.spec_built.specs.declared.Site.{Site}
-use Rattle.spec_built.specs.Luma.{x4, y4, x8, y8}
-use Rattle.intra_coder.specs.Reach.{IsSource, Reachable, Readable, Stands}
+use Rattle.spec_basics.specs.Blocks.{block_column, block_row, block_number}
+use Rattle.spec_intra.specs.Near.{block_avail}
+use Rattle.spec_reconstruction.specs.declared.Site.{Site}
+use Rattle.spec_reconstruction.specs.Luma.{x4, y4, x8, y8}
+use Rattle.residual_coder.specs.Inside.{IsSource}
+use Rattle.intra_coder.specs.Reach.{Reachable, Readable, Stands}
 
 left_inside : (low c x s : ℕ) (l : Bool) → 0 < s → low ≤ x → (l ≡ true → low + 16 ≤ x) → (nat_lt 0 c || l) ≡ true → low < x + s * c
 left_inside low zero x s true p q h e = omega (arith, h refl)

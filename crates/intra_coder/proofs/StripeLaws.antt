@@ -1,29 +1,19 @@
 -- The samples of a plane that begins with a lower row of a larger one, where they stand in that one.
-use Rattle.std.proofs.Common.{◌≡◌, ◌≤◌, ◌<◌, ◌+◌, ◌-◌, ◌*◌, ◌++◌, ℕ, zero, suc, Bool, true, false, List, length, map, take, drop, get_or, replicate, refl, sym, ap, ap₂, ◌∙◌, arith, append_assoc}
+use Rattle.std.proofs.Common.{◌≡◌, ◌≤◌, ◌<◌, ◌+◌, ◌-◌, ◌*◌, ◌++◌, ℕ, Bool, true, false, List, map, get_or, replicate, refl, sym, ap, ◌∙◌, arith}
 use Rattle.std.specs.List.{range_with_len}
 use Rattle.std.proofs.lemmas.List.{length-replicate, get_or-append_right}
 use Rattle.std.proofs.lemmas.List.FromFn.{length-map-range_with_len, get_or-map-range_with_len}
-use Rattle.std.proofs.Math.Seq.{drop-append-add, take-append-add}
 use Rattle.picture_planes.specs.declared.plane.Plane.{Plane}
-use Rattle.picture_planes.specs.Over.{over}
 use Rattle.picture_planes.specs.Samples.{samples_of}
-use Rattle.spec_built.specs.Parts.{with_rows, with_block}
 use Rattle.spec_intra.specs.Block.{line}
 use Rattle.spec_intra.specs.declared.Avail.{Avail}
 use Rattle.spec_intra.specs.Near.{line_there, plane_sample, above_at, left_at, corner_at, neighbours4, neighbours8, neighbours16, neighbours_chroma}
 use Rattle.plane_blocks.specs.Reach.{Reachable as ReachableIn, Readable as ReadableIn}
 use Rattle.plane_blocks.proofs.Gathered.{neighbours4_are, neighbours8_are, neighbours16_are, neighbours_chroma_are}
 use Rattle.intra_coder.specs.Reach.{Reachable, Readable}
-use Rattle.intra_coder.specs.Stripes.{samples_from}
-use Rattle.intra_coder.proofs.BlockLaws.{is_line}
-
--- a place that many rows further down
-place_below : (top y wide x : ℕ) → top ≤ y → y * wide + x ≡ top * wide + ((y - top) * wide + x)
-place_below top y wide x h =
-    let whole : y ≡ top + (y - top) = omega arith in
-    let parts : (top + (y - top)) * wide ≡ top * wide + (y - top) * wide = grind arith in
-    let product : y * wide ≡ top * wide + (y - top) * wide = ap (λ (n : ℕ). n * wide) whole ∙ parts in
-    omega (arith, product)
+use Rattle.residual_coder.specs.Stripes.{samples_from}
+use Rattle.residual_coder.proofs.BlockLaws.{is_line}
+use Rattle.residual_coder.proofs.StripeLaws.{place_below}
 
 sample_behind : (m k : ℕ) (xs : List ℕ) → get_or (replicate {A = ℕ} m 0 ++ xs) (m + k) 0 ≡ get_or xs k 0
 sample_behind m k xs =
@@ -122,29 +112,3 @@ module _ (p : Plane) (top : ℕ) where
   near_chroma_from avail x y r =
       neighbours_chroma_are (plane_sample p.width (samples_from top p)) avail x y _ _ _
       (above_from 8 x y avail.above r.above) (left_from 8 x y avail.left r.begins) (corner_from x y avail.corner r.corner_above)
-
-over_behind : (zs xs w : List ℕ) (i : ℕ) → over (zs ++ xs) (length zs + i) w ≡ zs ++ over xs i w
-over_behind zs xs w i =
-    ap₂ (λ (a b : List ℕ). a ++ (w ++ drop (length w) b)) (take-append-add zs xs i) (drop-append-add zs xs i)
-    ∙ append_assoc zs (take i xs) (w ++ drop (length w) (drop i xs))
-
--- rows of a block that are written behind other rows
-rows_behind : (wide x y n top : ℕ) (block zs xs : List ℕ) → length zs ≡ top * wide → top ≤ y → (k : ℕ) → with_rows wide x y n block k (zs ++ xs) ≡ zs ++ with_rows wide x (y - top) n block k xs
-unfolding with_rows
-rows_behind wide x y n top block zs xs long h zero = refl
-rows_behind wide x y n top block zs xs long h (suc k) =
-    let w : List ℕ = take n (drop (k * n) block) in
-    let before : List ℕ = with_rows wide x (y - top) n block k xs in
-    let row : y + k - top ≡ y - top + k = omega arith in
-    let place : (y + k) * wide + x ≡ length zs + ((y - top + k) * wide + x) =
-    place_below top (y + k) wide x (omega arith) ∙ ap₂ (λ (m r : ℕ). m + (r * wide + x)) (sym long) row in
-    ap₂ (λ (l : List ℕ) (i : ℕ). over l i w) (rows_behind wide x y n top block zs xs long h k) place
-    ∙ over_behind zs before w ((y - top + k) * wide + x)
-
--- a block that is written in the plane is written in the larger one
-pub written_from : (p q : Plane) (top x y n : ℕ) (block : List ℕ) → q.width ≡ p.width → top ≤ y → samples_of q ≡ with_block p.width x (y - top) n block (samples_of p)
-    → samples_from top q ≡ with_block p.width x y n block (samples_from top p)
-unfolding samples_from
-written_from p q top x y n block same h done =
-    ap₂ (λ (v : ℕ) (l : List ℕ). replicate {A = ℕ} (top * v) 0 ++ l) same done
-    ∙ sym (rows_behind p.width x y n top block (replicate {A = ℕ} (top * p.width) 0) (samples_of p) (length-replicate {A = ℕ} (top * p.width) 0) h n)

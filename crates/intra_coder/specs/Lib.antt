@@ -1,3 +1,2 @@
-pub mod Stripes
 pub mod Made
 pub mod Reach

@@ -1,41 +1,16 @@
--- Levels that the quantiser made of intra macroblocks.
-use Rattle.std.specs.Prelude.{ℕ, ℤ, pos, true, Bool, List, ◌∷◌, drop, slice_index, ◌<◌}
-use Rattle.enc_tables.specs.declared.transform.TheConstants.{ZIGZAG4, ZIGZAG8}
-use Rattle.spec_residual.specs.declared.BlockKind.{BlockKind}
-use Rattle.spec_residual.specs.declared.BlockKind.TheVariants.{Luma4, Luma8, Chroma4}
-use Rattle.spec_residual.specs.Blocks.{AllWithin, item}
-use Rattle.spec_residual.specs.Levels.{IsMade}
-use Rattle.spec_built.specs.declared.Site.{Site}
-use Rattle.spec_built.specs.InOrder.{joined, levels_of_block}
-use Rattle.spec_built.specs.Chroma.{spectrum_chroma}
-use Rattle.spec_built.specs.Luma.{spectrum16}
-use Rattle.spec_built.specs.Residuals.{levels_without_dc}
+-- Levels that the quantiser made of Intra_16x16 macroblocks.
+use Rattle.std.specs.Prelude.{ℕ, ℤ, true, List, ◌<◌}
+use Rattle.spec_residual.specs.declared.BlockKind.TheVariants.{Luma4}
+use Rattle.spec_reconstruction.specs.declared.Site.{Site}
+use Rattle.spec_reconstruction.specs.InOrder.{joined, levels_of_block}
+use Rattle.spec_reconstruction.specs.Luma.{spectrum16}
+use Rattle.spec_reconstruction.specs.Residuals.{levels_without_dc}
+use Rattle.residual_coder.specs.Made.{IsQuantised}
 
--- each level of a 4x4 block, in zigzag order
-abbrev pub AllMade4 : BlockKind → Bool → ℕ → List ℤ → Type 0
-AllMade4 kind intra qp levels = (s : ℕ) → s < 16 → IsMade kind intra qp (slice_index ZIGZAG4 s) (item levels s)
-
--- each level of an 8x8 luma block, in zigzag order
-abbrev pub AllMade8 : Bool → ℕ → List ℤ → Type 0
-AllMade8 intra qp levels = (s : ℕ) → s < 64 → IsMade Luma8 intra qp (slice_index ZIGZAG8 s) (item levels s)
-
--- a 4x4 block's levels, of which those of an intra macroblock were made and are small
-pub record IsQuantised (kind : BlockKind) (qp : ℕ) (levels : List ℤ) : Type 0 where
-  pub small : AllWithin 16 8191 levels
-  pub made : AllMade4 kind true qp levels
-
--- of each of the first n blocks
+-- the levels of each of the first n blocks
 abbrev pub BlocksQuantised : ℕ → ℕ → List ℤ → Type 0
 BlocksQuantised qp n levels = (b : ℕ) → b < n → IsQuantised Luma4 qp (levels_of_block 16 b levels)
 
 -- the levels of the sixteen blocks of an Intra_16x16 macroblock but their DC coefficients, one after another
 unfoldable pub others16 : ℕ → Site → List ℕ → List ℕ → List ℤ
 others16 wide site source prediction = joined (λ b. levels_without_dc Luma4 true site.qp (spectrum16 wide site source prediction b)) 16
-
--- of each of the first n blocks of a chroma component, a 0 in the place of the DC level
-abbrev pub FoursQuantised : ℕ → ℕ → List ℤ → Type 0
-FoursQuantised qp n ac = (b : ℕ) → b < n → IsQuantised Chroma4 qp (pos 0 ∷ levels_of_block 15 b ac)
-
--- the AC levels of the four blocks of a chroma component, one after another, by its own quantisation parameter
-unfoldable pub others_chroma : ℕ → Site → ℕ → List ℕ → List ℕ → List ℤ
-others_chroma wide site qp source prediction = joined (λ b. drop 1 (levels_without_dc Chroma4 true qp (spectrum_chroma wide site source prediction b))) 4

@@ -2,7 +2,7 @@
 use Rattle.std.specs.Prelude.{ℕ, true, ◌≡◌, ◌≤◌, ◌<◌, ◌+◌}
 use Rattle.picture_planes.specs.declared.plane.Plane.{Plane}
 use Rattle.spec_intra.specs.declared.Avail.{Avail}
-use Rattle.spec_built.specs.declared.Site.{Site}
+use Rattle.spec_reconstruction.specs.declared.Site.{Site}
 
 -- a block of n by n samples at (x, y) of a larger plane, of which this one has the rows from `top` on, and those of its neighbours that
 -- are available, but for those above at the right
@@ -32,8 +32,3 @@ pub record Stands (site : Site) (top : ℕ) (plane : Plane) : Type 0 where
   pub corner_above : site.near.corner ≡ true → top + 16 ≤ site.y
   pub beyond : site.near.above_right ≡ true → site.x + 32 ≤ plane.width
   pub beyond_above : site.near.above_right ≡ true → top + 16 ≤ site.y
-
--- the plane of a source that is as wide as this one, and has a block of n by n samples down to this row
-pub record IsSource (n y : ℕ) (plane source : Plane) : Type 0 where
-  pub wide : source.width ≡ plane.width
-  pub rows : y + n ≤ source.height

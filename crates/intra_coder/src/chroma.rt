@@ -1,184 +1,20 @@
 // The samples of a chroma component of intra macroblocks.
-ghost use Rattle.std.specs.Prelude.{◌≡◌, ◌≤◌, ◌<◌, ◌+◌, ◌*◌, ◌/◌, ◌%◌, ◌∷◌, ℕ, pos, true, length, slice_index};
-ghost use Rattle.intra_coder.specs.Made.{FoursQuantised, IsQuantised, others_chroma};
-ghost use Rattle.intra_coder.specs.Reach.{IsSource, Reachable};
-ghost use Rattle.intra_coder.specs.Stripes.{samples_from};
+ghost use Rattle.std.specs.Prelude.{◌≡◌, ◌≤◌, ◌<◌, ◌/◌, ◌++◌, take, drop};
+ghost use Rattle.intra_coder.specs.Reach.{Reachable};
+ghost use Rattle.residual_coder.specs.Inside.{IsSource};
+ghost use Rattle.residual_coder.specs.Stripes.{samples_from};
 ghost use Rattle.picture_planes.specs.Samples.{SameShape, samples_of};
-ghost use Rattle.spec_built.specs.Chroma.{build_chroma, chroma_ac, chroma_built, chroma_dc, chroma_qp, part_chroma, spectrum_chroma};
-ghost use Rattle.spec_built.specs.InOrder.{built_in_order, levels_of_block};
-ghost use Rattle.spec_residual.specs.Blocks.{AllWithin, Within, item, listed};
-ghost use Rattle.spec_residual.specs.declared.BlockKind.TheVariants.{Chroma4, ChromaDc};
+ghost use Rattle.spec_reconstruction.specs.Chroma.{chroma_ac, chroma_built, chroma_dc};
 
-use crate::luma::{built_with_dc, levels_without_dc, spectrum4};
 use crate::near::near_chroma;
-use crate::parts::{block_of, block4_at, write_block};
-use enc_tables::CHROMA_QP;
 use intra_pred::pred_chroma;
-use picture_planes::Plane;
-use spec_built::Site;
-use spec_residual::BlockKind;
-use transform_quant::{chroma_dc, quantise_chroma_dc, rescale_chroma_dc};
+use picture_planes::{Picture, Plane};
+use residual_coder::{Chroma, both_ac, both_dc};
+use spec_reconstruction::Site;
 
-/// The chroma quantisation parameter (ITU-T H.264, clause 8.5.8).
-#[inline(always)]
-pub fn chroma_qp(qp: u8) -> u8
-    requires { qp ≤ 51 }
-    ensures value { result ≡ chroma_qp qp }
-    ensures small { result ≤ 51 }
-{
-    CHROMA_QP[qp as usize]
-}
-
-#[inline(always)]
-fn part_chroma(prediction: &[u8; 64], b: u32) -> [u8; 16]
-    requires { b < 4 }
-    ensures { result ≡ part_chroma prediction.now b }
-{
-    block_of(8, prediction, 4 * (b % 2), 4 * (b / 2))
-}
-
-// The coefficients of block `b`.
-#[inline(always)]
-fn spectrum_chroma(source: &Plane, site: &Site, prediction: &[u8; 64], b: u32) -> [i32; 16]
-    requires block { b < 4 }
-    requires columns { site.now.x / 2 + 8 ≤ source.now.width }
-    requires rows { site.now.y / 2 + 8 ≤ source.now.height }
-    ensures value { result ≡ spectrum_chroma source.now.width site.now (samples_of source.now) prediction.now b }
-    ensures small { AllWithin 16 9180 result }
-    ensures first { Within 4080 (item result 0) }
-{
-    let x = site.x / 2 + 4 * (b % 2);
-    let y = site.y / 2 + 4 * (b / 2);
-    let original = block4_at(source, x, y);
-    let part = part_chroma(prediction, b);
-    spectrum4(&original, &part)
-}
-
-#[inline(always)]
-fn first_of(coefficients: &[i32; 16]) -> i32
-    ensures { result ≡ item coefficients.now 0 }
-{
-    coefficients[0]
-}
-
-#[inline(always)]
-fn dc_at(dcs: &[i32; 4], b: u32) -> i32
-    requires { b < 4 }
-    ensures { result ≡ item dcs.now b }
-{
-    dcs[b as usize]
-}
-
-// The first coefficients of the four blocks, and the levels of the others, those of block b at 15b.
-#[derive(Clone, Copy)]
-struct Spectra {
-    firsts: [i32; 4],
-    ac: [i16; 60],
-}
-
-#[inline(always)]
-fn spectra_chroma(source: &Plane, site: &Site, qp: u8, prediction: &[u8; 64]) -> Spectra
-    requires in_range { qp ≤ 51 }
-    requires columns { site.now.x / 2 + 8 ≤ source.now.width }
-    requires rows { site.now.y / 2 + 8 ≤ source.now.height }
-    ensures firsts { result.firsts ≡ listed 4 (λ b. item (spectrum_chroma source.now.width site.now (samples_of source.now) prediction.now b) 0) }
-    ensures small { AllWithin 4 4080 result.firsts }
-    ensures ac { result.ac ≡ others_chroma source.now.width site.now qp (samples_of source.now) prediction.now }
-    ensures quantised { FoursQuantised qp 4 result.ac }
-{
-    let mut firsts = [0i32; 4];
-    let mut ac = [0i16; 60];
-    for b in 0..4u32 {
-        let spectrum = spectrum_chroma(source, site, prediction, b);
-        let first = first_of(&spectrum);
-        firsts[b as usize] = first;
-        let block = levels_without_dc(BlockKind::Chroma4, qp, &spectrum);
-        let start = b as usize * 15;
-        let end = start + 15;
-        ac[start..end].copy_from_slice(&block[1..16]);
-    }
-    Spectra { firsts, ac }
-}
-
-// The levels of block `b`, a 0 in the place of its DC coefficient.
-#[inline(always)]
-fn block_levels(ac: &[i16; 60], b: u32) -> [i16; 16]
-    requires { b < 4 }
-    ensures { result ≡ pos 0 ∷ levels_of_block 15 b ac.now }
-{
-    let mut block = [0i16; 16];
-    let start = b as usize * 15;
-    let end = start + 15;
-    block[1..16].copy_from_slice(&ac[start..end]);
-    block
-}
-
-// Builds block `b` in the plane from its levels and the DC coefficients.
-#[inline(always)]
-fn build_block(
-    plane: &mut Plane,
-    top: u32,
-    site: &Site,
-    qp: u8,
-    prediction: &[u8; 64],
-    dcs: &[i32; 4],
-    ac: &[i16; 60],
-    b: u32,
-)
-    requires block { b < 4 }
-    requires in_range { qp ≤ 51 }
-    requires of_luma { qp ≡ chroma_qp site.now.qp }
-    requires top { top < 2304 }
-    requires stands { Reachable 8 top plane.old site.now.near (site.now.x / 2) (site.now.y / 2) }
-    requires dcs { AllWithin 4 1048576 dcs.now }
-    requires quantised { IsQuantised Chroma4 qp (pos 0 ∷ levels_of_block 15 b ac.now) }
-    ensures shape { SameShape plane.old plane.new }
-    ensures samples { samples_from top plane.new ≡ build_chroma plane.old.width site.now prediction.now dcs.now b (levels_of_block 15 b ac.now) (samples_from top plane.old) }
-{
-    let x = site.x / 2 + 4 * (b % 2);
-    let y = site.y / 2 + 4 * (b / 2);
-    let part = part_chroma(prediction, b);
-    let block = block_levels(ac, b);
-    let dc = dc_at(dcs, b);
-    let samples = built_with_dc(BlockKind::Chroma4, qp, dc, &block, &part);
-    write_block(plane, top, x, y, 4, &samples);
-}
-
-fn build_component(
-    plane: &mut Plane,
-    top: u32,
-    site: &Site,
-    qp: u8,
-    prediction: &[u8; 64],
-    dcs: &[i32; 4],
-    ac: &[i16; 60],
-)
-    requires in_range { qp ≤ 51 }
-    requires of_luma { qp ≡ chroma_qp site.now.qp }
-    requires top { top < 2304 }
-    requires stands { Reachable 8 top plane.old site.now.near (site.now.x / 2) (site.now.y / 2) }
-    requires dcs { AllWithin 4 1048576 dcs.now }
-    requires quantised { FoursQuantised qp 4 ac.now }
-    ensures shape { SameShape plane.old plane.new }
-    ensures samples { samples_from top plane.new ≡ built_in_order (build_chroma plane.old.width site.now prediction.now dcs.now) 15 ac.now 4 (samples_from top plane.old) }
-{
-    for b in 0..4u32 {
-        build_block(plane, top, site, qp, prediction, dcs, ac, b);
-    }
-}
-
-/// The levels of a chroma component.
-#[derive(Clone, Copy)]
-pub struct Chroma {
-    /// The DC levels.
-    pub dc: [i16; 4],
-    /// The AC levels, those of block b in zigzag order at 15b.
-    pub ac: [i16; 60],
-}
-
-/// Codes a chroma component of an intra macroblock and builds its samples in the component's plane, which has the picture's rows from
-/// `top` on.
-pub fn code_chroma(plane: &mut Plane, top: u32, source: &Plane, site: &Site, mode: u8) -> Chroma
+// Codes a chroma component of an intra macroblock and builds its samples in the component's plane, which has the picture's rows from
+// `top` on.
+fn code_component(plane: &mut Plane, top: u32, source: &Plane, site: &Site, mode: u8) -> Chroma
     requires in_range { site.now.qp ≤ 51 }
     requires stands { Reachable 8 top plane.old site.now.near (site.now.x / 2) (site.now.y / 2) }
     requires source { IsSource 8 (site.now.y / 2) plane.old source.now }
@@ -188,16 +24,47 @@ pub fn code_chroma(plane: &mut Plane, top: u32, source: &Plane, site: &Site, mod
     ensures ac { result.ac ≡ chroma_ac plane.old.width site.now mode (samples_of source.now) (samples_from top plane.old) }
     ensures samples { samples_from top plane.new ≡ chroma_built plane.old.width site.now mode result.dc result.ac (samples_from top plane.old) }
 {
-    let qp = chroma_qp(site.qp);
     let near = near_chroma(plane, top, &site.near, site.x / 2, site.y / 2);
     let prediction = pred_chroma(mode, &near);
-    let spectra = spectra_chroma(source, site, qp, &prediction);
-    let means = chroma_dc(&spectra.firsts);
-    let quantised = quantise_chroma_dc(true, qp, &means);
-    let dcs = rescale_chroma_dc(qp, &quantised.levels);
-    build_component(plane, top, site, qp, &prediction, &dcs, &spectra.ac);
-    Chroma {
-        dc: quantised.levels,
-        ac: spectra.ac,
+    residual_coder::code_chroma(plane, top, source, site, true, &prediction)
+}
+
+/// The levels of both chroma components.
+#[derive(Clone, Copy)]
+pub struct Components {
+    /// The DC levels: those of Cb at 0, those of Cr at 4.
+    pub dc: [i16; 8],
+    /// The AC levels: those of block b of Cb in zigzag order at 15b, of Cr at 60 + 15b.
+    pub ac: [i16; 120],
+}
+
+/// Codes both chroma components of an intra macroblock and builds their samples in their planes, which have the picture's rows from `top`
+/// on.
+pub fn code_components(
+    cb: &mut Plane,
+    cr: &mut Plane,
+    top: u32,
+    source: &Picture,
+    site: &Site,
+    mode: u8,
+) -> Components
+    requires in_range { site.now.qp ≤ 51 }
+    requires stands_cb { Reachable 8 top cb.old site.now.near (site.now.x / 2) (site.now.y / 2) }
+    requires stands_cr { Reachable 8 top cr.old site.now.near (site.now.x / 2) (site.now.y / 2) }
+    requires source_cb { IsSource 8 (site.now.y / 2) cb.old source.now.cb }
+    requires source_cr { IsSource 8 (site.now.y / 2) cr.old source.now.cr }
+    requires mode { mode < 4 }
+    ensures shape_cb { SameShape cb.old cb.new }
+    ensures shape_cr { SameShape cr.old cr.new }
+    ensures dc { result.dc ≡ chroma_dc cb.old.width site.now mode (samples_of source.now.cb) (samples_from top cb.old) ++ chroma_dc cr.old.width site.now mode (samples_of source.now.cr) (samples_from top cr.old) }
+    ensures ac { result.ac ≡ chroma_ac cb.old.width site.now mode (samples_of source.now.cb) (samples_from top cb.old) ++ chroma_ac cr.old.width site.now mode (samples_of source.now.cr) (samples_from top cr.old) }
+    ensures cb { samples_from top cb.new ≡ chroma_built cb.old.width site.now mode (take 4 result.dc) (take 60 result.ac) (samples_from top cb.old) }
+    ensures cr { samples_from top cr.new ≡ chroma_built cr.old.width site.now mode (drop 4 result.dc) (drop 60 result.ac) (samples_from top cr.old) }
+{
+    let of_cb = code_component(cb, top, &source.cb, site, mode);
+    let of_cr = code_component(cr, top, &source.cr, site, mode);
+    Components {
+        dc: both_dc(&of_cb.dc, &of_cr.dc),
+        ac: both_ac(&of_cb.ac, &of_cr.ac),
     }
 }

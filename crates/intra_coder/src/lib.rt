@@ -1,15 +1,12 @@
 //! Intra macroblocks: their levels, and their samples as a decoder builds them.
 #![tactic(auto)]
 
-mod blocks;
 mod chroma;
-mod luma;
 mod luma16;
 mod luma4;
 mod luma8;
 mod macroblock;
 mod near;
-mod parts;
 mod places;
 mod site;
 

@@ -1,26 +1,29 @@
 // The luma samples of Intra_16x16 macroblocks.
 ghost use Rattle.std.specs.Prelude.{◌≡◌, ◌≤◌, ◌<◌, ◌+◌, ◌*◌, ◌/◌, ℕ, true, length, slice_index};
 ghost use Rattle.enc_tables.specs.declared.transform.TheConstants.{ZIGZAG4};
-ghost use Rattle.intra_coder.specs.Made.{BlocksQuantised, IsQuantised, others16};
-ghost use Rattle.intra_coder.specs.Reach.{IsSource, Stands};
-ghost use Rattle.intra_coder.specs.Stripes.{samples_from};
+ghost use Rattle.intra_coder.specs.Made.{BlocksQuantised, others16};
+ghost use Rattle.residual_coder.specs.Made.{IsQuantised};
+ghost use Rattle.residual_coder.specs.Inside.{IsSource};
+ghost use Rattle.intra_coder.specs.Reach.{Stands};
+ghost use Rattle.residual_coder.specs.Stripes.{samples_from};
 ghost use Rattle.picture_planes.specs.Samples.{SameShape, samples_of};
-ghost use Rattle.spec_built.specs.InOrder.{built_in_order, joined, levels_of_block};
-ghost use Rattle.spec_built.specs.Luma.{build16, firsts16, place16, luma16_built, luma16_dc, luma16_levels, part16, spectrum16, unscanned};
-ghost use Rattle.spec_built.specs.Parts.{block_at};
-ghost use Rattle.spec_built.specs.Residuals.{levels_without_dc};
-ghost use Rattle.spec_residual.specs.Blocks.{AllWithin, Within, item};
+ghost use Rattle.spec_reconstruction.specs.InOrder.{built_in_order, joined, levels_of_block};
+ghost use Rattle.spec_reconstruction.specs.Luma.{build16, firsts16, place16, luma16_built, luma16_dc, luma16_levels, part16, spectrum16, unscanned};
+ghost use Rattle.spec_reconstruction.specs.Parts.{block_at};
+ghost use Rattle.spec_reconstruction.specs.Residuals.{levels_without_dc};
+ghost use Rattle.spec_residual.specs.Blocks.{AllWithin, item};
+ghost use Rattle.spec_basics.specs.Bounds.{Within};
 ghost use Rattle.spec_residual.specs.Levels.{IsMade};
 ghost use Rattle.spec_residual.specs.declared.BlockKind.TheVariants.{Luma4, LumaDc};
 
-use crate::blocks::zigzag4;
-use crate::luma::{built_with_dc, levels_without_dc, spectrum4};
 use crate::near::near16;
-use crate::parts::{block_of, block4_at, write_block};
 use crate::places::{block_column, block_row};
 use intra_pred::pred16;
 use picture_planes::Plane;
-use spec_built::Site;
+use residual_coder::{
+    block_of, block4_at, built_with_dc, levels_without_dc, spectrum4, write_block, zigzag4,
+};
+use spec_reconstruction::Site;
 use spec_residual::BlockKind;
 use transform_quant::{luma_dc, quantise4, rescale_luma_dc};
 
@@ -107,7 +110,7 @@ fn spectra16(source: &Plane, site: &Site, prediction: &[u8; 256]) -> Spectra
         let first = coefficient_at(&spectrum, 0);
         let place = place16(b);
         firsts[place] = first;
-        let block = levels_without_dc(BlockKind::Luma4, site.qp, &spectrum);
+        let block = levels_without_dc(BlockKind::Luma4, true, site.qp, &spectrum);
         let start = b as usize * 16;
         let end = start + 16;
         levels[start..end].copy_from_slice(&block);

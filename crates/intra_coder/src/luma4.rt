@@ -1,18 +1,18 @@
 // The luma samples of Intra_4x4 macroblocks.
 ghost use Rattle.std.specs.Prelude.{◌≡◌, ◌≤◌, ◌<◌, ◌+◌, ◌*◌, ℕ, slice_index};
-ghost use Rattle.intra_coder.specs.Reach.{IsSource, Stands};
-ghost use Rattle.intra_coder.specs.Stripes.{samples_from};
+ghost use Rattle.residual_coder.specs.Inside.{IsSource};
+ghost use Rattle.intra_coder.specs.Reach.{Stands};
+ghost use Rattle.residual_coder.specs.Stripes.{samples_from};
 ghost use Rattle.picture_planes.specs.Samples.{SameShape, samples_of};
-ghost use Rattle.spec_built.specs.Luma.{build4, choose4, luma4_built, luma4_levels, prediction4};
+ghost use Rattle.spec_reconstruction.specs.Luma.{build4, choose4, luma4_built, luma4_levels, prediction4};
 
-use crate::luma::code4;
 use crate::near::near4;
-use crate::parts::{block4_at, write_block};
 use crate::places::{block_column, block_row};
 use intra_pred::pred4;
 use picture_planes::Plane;
 use plane_blocks::near_block4;
-use spec_built::Site;
+use residual_coder::{block4_at, code4, write_block};
+use spec_reconstruction::Site;
 
 #[inline(always)]
 fn prediction4(plane: &Plane, top: u32, site: &Site, modes: &[u8; 16], b: u32) -> [u8; 16]
@@ -52,7 +52,7 @@ fn code_block4(
     let y = site.y + 4 * block_row(b);
     let prediction = prediction4(plane, top, site, modes, b);
     let original = block4_at(source, x, y);
-    let coded = code4(site.qp, &original, &prediction);
+    let coded = code4(true, site.qp, &original, &prediction);
     write_block(plane, top, x, y, 4, &coded.samples);
     coded.levels
 }

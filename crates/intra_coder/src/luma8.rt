@@ -1,17 +1,17 @@
 // The luma samples of Intra_8x8 macroblocks.
 ghost use Rattle.std.specs.Prelude.{◌≡◌, ◌≤◌, ◌<◌, ◌+◌, ◌*◌, ◌/◌, ◌%◌, ℕ, slice_index};
-ghost use Rattle.intra_coder.specs.Reach.{IsSource, Stands};
-ghost use Rattle.intra_coder.specs.Stripes.{samples_from};
+ghost use Rattle.residual_coder.specs.Inside.{IsSource};
+ghost use Rattle.intra_coder.specs.Reach.{Stands};
+ghost use Rattle.residual_coder.specs.Stripes.{samples_from};
 ghost use Rattle.picture_planes.specs.Samples.{SameShape, samples_of};
-ghost use Rattle.spec_built.specs.Luma.{build8, choose8, luma8_built, luma8_levels, prediction8};
+ghost use Rattle.spec_reconstruction.specs.Luma.{build8, choose8, luma8_built, luma8_levels, prediction8};
 
-use crate::luma::code8;
 use crate::near::near8;
-use crate::parts::{block8_at, write_block};
 use intra_pred::pred8;
 use picture_planes::Plane;
 use plane_blocks::near_block8;
-use spec_built::Site;
+use residual_coder::{block8_at, code8, write_block};
+use spec_reconstruction::Site;
 
 #[inline(always)]
 #[tactic(auto, using(crate::proofs::Standing::readable8))]
@@ -56,7 +56,7 @@ fn code_block8(
     let y = site.y + 8 * (b / 2);
     let prediction = prediction8(plane, top, site, modes, b);
     let original = block8_at(source, x, y);
-    let coded = code8(site.qp, &original, &prediction);
+    let coded = code8(true, site.qp, &original, &prediction);
     write_block(plane, top, x, y, 8, &coded.samples);
     coded.levels
 }

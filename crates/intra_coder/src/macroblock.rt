@@ -1,78 +1,21 @@
 // Whole intra macroblocks and their records.
 ghost use Rattle.std.specs.Prelude.{◌≡◌, ◌≤◌, ◌<◌, ◌+◌, ◌*◌, ◌++◌, ◌∷◌, ℕ, length, replicate, slice_index, slice_range};
-ghost use Rattle.intra_coder.specs.Reach.{IsSource, Stands};
-ghost use Rattle.intra_coder.specs.Stripes.{planes_in};
+ghost use Rattle.residual_coder.specs.Inside.{IsSource};
+ghost use Rattle.intra_coder.specs.Reach.{Stands};
+ghost use Rattle.residual_coder.specs.Stripes.{planes_in};
 ghost use Rattle.picture_planes.specs.Pictures.{SameShapes, planes_of};
-ghost use Rattle.spec_built.specs.Chroma.{chroma_ac, chroma_built, chroma_dc};
-ghost use Rattle.spec_built.specs.Records.{bit_if, chroma_pattern, intra16_record, intra4_record, intra8_record, intra_built, intra_record, luma_pattern};
+ghost use Rattle.spec_reconstruction.specs.Chroma.{chroma_ac, chroma_built, chroma_dc};
+ghost use Rattle.spec_reconstruction.specs.Records.{bit_if, chroma_pattern, intra16_record, intra4_record, intra8_record, intra_built, intra_record, luma_pattern};
 ghost use Rattle.spec_contexts.specs.Increments.{some_level};
 
-use crate::chroma::code_chroma;
+use crate::chroma::code_components;
 use crate::luma4::code_luma4;
 use crate::luma8::code_luma8;
 use crate::luma16::code_luma16;
 use enc_tables::{MbKind, MbRecord, Motion, Vector};
 use picture_planes::{Picture, Stripe};
-use spec_built::Site;
-
-#[inline(always)]
-fn some_level(levels: &[i16]) -> bool
-    ensures { result ≡ some_level levels.now }
-{
-    levels.iter().any(|level| *level != 0)
-}
-
-#[inline(always)]
-fn bit_if(is: bool, bit: u8) -> u8
-    ensures { result ≡ bit_if is bit }
-{
-    if is { bit } else { 0 }
-}
-
-// A bit for each 8x8 block that has a level.
-#[inline(always)]
-#[tactic(auto, unfolding(spec_built::specs::Records::luma_pattern))]
-fn luma_pattern(luma: &[i16; 256]) -> u8
-    ensures { result ≡ luma_pattern luma.now }
-{
-    let first = bit_if(some_level(&luma[0..64]), 1);
-    let second = bit_if(some_level(&luma[64..128]), 2);
-    let third = bit_if(some_level(&luma[128..192]), 4);
-    let fourth = bit_if(some_level(&luma[192..256]), 8);
-    first + second + third + fourth
-}
-
-#[inline(always)]
-#[tactic(auto, unfolding(spec_built::specs::Records::chroma_pattern))]
-fn chroma_pattern(dc: &[i16; 8], ac: &[i16; 120]) -> u8
-    ensures { result ≡ chroma_pattern dc.now ac.now }
-{
-    if some_level(ac) {
-        2
-    } else {
-        bit_if(some_level(dc), 1)
-    }
-}
-
-#[inline(always)]
-fn both_dc(cb: &[i16; 4], cr: &[i16; 4]) -> [i16; 8]
-    ensures { result ≡ cb.now ++ cr.now }
-{
-    let mut both = [0i16; 8];
-    both[..4].copy_from_slice(cb);
-    both[4..].copy_from_slice(cr);
-    both
-}
-
-#[inline(always)]
-fn both_ac(cb: &[i16; 60], cr: &[i16; 60]) -> [i16; 120]
-    ensures { result ≡ cb.now ++ cr.now }
-{
-    let mut both = [0i16; 120];
-    both[..60].copy_from_slice(cb);
-    both[60..].copy_from_slice(cr);
-    both
-}
+use residual_coder::{bit_if, chroma_pattern, luma_pattern, some_level};
+use spec_reconstruction::Site;
 
 // What the syntax says of an intra macroblock's luma samples.
 #[derive(Clone, Copy)]
@@ -85,22 +28,17 @@ struct Luma {
     levels: [i16; 256],
 }
 
-#[tactic(auto, unfolding(spec_built::specs::Records::intra_record))]
+#[tactic(auto, unfolding(spec_reconstruction::specs::Records::intra_record))]
 fn record_of(luma: &Luma, chroma_mode: u8, qp: u8, dc: &[i16; 8], ac: &[i16; 120]) -> MbRecord
     ensures { result ≡ intra_record luma.now.kind luma.now.transform8 luma.now.modes chroma_mode qp luma.now.pattern luma.now.dc luma.now.levels dc.now ac.now }
 {
-    let nothing = Vector { x: 0, y: 0 };
-    let unused = Motion {
-        refs: [-1, -1],
-        vectors: [nothing; 2],
-    };
     MbRecord {
         kind: luma.kind,
         transform8: luma.transform8,
         modes: luma.modes,
         chroma_mode,
-        motion: [unused; 4],
-        mvd: [nothing; 8],
+        motion: [Motion::NONE; 4],
+        mvd: [Vector::ZERO; 8],
         luma_cbp: luma.pattern,
         chroma_cbp: chroma_pattern(dc, ac),
         qp,
@@ -141,17 +79,11 @@ pub fn code_intra4(
 {
     let picture = &mut *stripe.picture;
     let levels = code_luma4(&mut picture.y, 16 * stripe.first, &source.y, site, modes);
-    let cb = code_chroma(
+    let chroma = code_components(
         &mut picture.cb,
-        8 * stripe.first,
-        &source.cb,
-        site,
-        chroma_mode,
-    );
-    let cr = code_chroma(
         &mut picture.cr,
         8 * stripe.first,
-        &source.cr,
+        source,
         site,
         chroma_mode,
     );
@@ -163,9 +95,7 @@ pub fn code_intra4(
         dc: [0; 16],
         levels,
     };
-    let dc = both_dc(&cb.dc, &cr.dc);
-    let ac = both_ac(&cb.ac, &cr.ac);
-    record_of(&luma, chroma_mode, site.qp, &dc, &ac)
+    record_of(&luma, chroma_mode, site.qp, &chroma.dc, &chroma.ac)
 }
 
 /// Codes an Intra_8x8 macroblock. Of the modes the first four count; the others stand in the record as they are.
@@ -189,17 +119,11 @@ pub fn code_intra8(
 {
     let picture = &mut *stripe.picture;
     let levels = code_luma8(&mut picture.y, 16 * stripe.first, &source.y, site, modes);
-    let cb = code_chroma(
+    let chroma = code_components(
         &mut picture.cb,
-        8 * stripe.first,
-        &source.cb,
-        site,
-        chroma_mode,
-    );
-    let cr = code_chroma(
         &mut picture.cr,
         8 * stripe.first,
-        &source.cr,
+        source,
         site,
         chroma_mode,
     );
@@ -211,9 +135,7 @@ pub fn code_intra8(
         dc: [0; 16],
         levels,
     };
-    let dc = both_dc(&cb.dc, &cr.dc);
-    let ac = both_ac(&cb.ac, &cr.ac);
-    record_of(&luma, chroma_mode, site.qp, &dc, &ac)
+    record_of(&luma, chroma_mode, site.qp, &chroma.dc, &chroma.ac)
 }
 
 /// Codes an Intra_16x16 macroblock.
@@ -237,17 +159,11 @@ pub fn code_intra16(
 {
     let picture = &mut *stripe.picture;
     let coded = code_luma16(&mut picture.y, 16 * stripe.first, &source.y, site, mode);
-    let cb = code_chroma(
+    let chroma = code_components(
         &mut picture.cb,
-        8 * stripe.first,
-        &source.cb,
-        site,
-        chroma_mode,
-    );
-    let cr = code_chroma(
         &mut picture.cr,
         8 * stripe.first,
-        &source.cr,
+        source,
         site,
         chroma_mode,
     );
@@ -259,7 +175,5 @@ pub fn code_intra16(
         dc: coded.dc,
         levels: coded.levels,
     };
-    let dc = both_dc(&cb.dc, &cr.dc);
-    let ac = both_ac(&cb.ac, &cr.ac);
-    record_of(&luma, chroma_mode, site.qp, &dc, &ac)
+    record_of(&luma, chroma_mode, site.qp, &chroma.dc, &chroma.ac)
 }

@@ -1,7 +1,7 @@
 // The neighbours of blocks, read from the planes built so far, of which each has some rows of a larger one.
 ghost use Rattle.std.specs.Prelude.{◌≡◌};
 ghost use Rattle.intra_coder.specs.Reach.{Reachable, Readable};
-ghost use Rattle.intra_coder.specs.Stripes.{samples_from};
+ghost use Rattle.residual_coder.specs.Stripes.{samples_from};
 ghost use Rattle.spec_intra.specs.Near.{neighbours4, neighbours8, neighbours16, neighbours_chroma, plane_sample};
 
 use picture_planes::Plane;

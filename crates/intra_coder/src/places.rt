@@ -1,6 +1,6 @@
 // Where the blocks of a macroblock stand.
 ghost use Rattle.std.specs.Prelude.{◌≡◌, ◌<◌, ◌+◌, ◌*◌, ◌/◌, ◌%◌};
-ghost use Rattle.spec_intra.specs.Near.{block_column, block_row};
+ghost use Rattle.spec_basics.specs.Blocks.{block_column, block_row};
 
 /// The column of 4x4 block `b` in its macroblock, in blocks (ITU-T H.264, clause 6.4.3).
 #[inline(always)]

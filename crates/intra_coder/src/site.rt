@@ -1,12 +1,12 @@
 // Where a macroblock stands.
 ghost use Rattle.std.specs.Prelude.{◌≡◌, ◌≤◌, ◌<◌, ◌+◌, ◌-◌, ◌*◌, ◌/◌, ◌%◌, ◌==◌, ◌&&◌, ℕ, not, nat_le};
 ghost use Rattle.intra_coder.specs.Reach.{Stands};
-ghost use Rattle.spec_built.specs.Records.{site_of};
+ghost use Rattle.spec_reconstruction.specs.Records.{site_of};
 ghost use Rattle.spec_intra.specs.Near.{macroblock_avail};
 ghost use Rattle.picture_planes.specs.declared.plane.Plane.{Plane};
 
-use spec_built::Site;
 use spec_intra::Avail;
+use spec_reconstruction::Site;
 
 // Which neighbouring macroblocks are in the same slice and earlier.
 #[inline(always)]

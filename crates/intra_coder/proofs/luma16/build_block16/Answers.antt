@@ -2,9 +2,9 @@ use Rattle.std.proofs.Common.{ℤ, ◌∙◌, ap, w32}
 use Rattle.std.proofs.lemmas.Int.{to_z-of_z}
 use mir.Val.{SFits}
 use Rattle.spec_residual.specs.declared.BlockKind.TheVariants.{Luma4}
-use Rattle.spec_built.specs.Residuals.{built_with_dc}
+use Rattle.spec_reconstruction.specs.Residuals.{built_with_dc}
 use Rattle.intra_coder.proofs.Luma16Laws.{build16_is}
-use Rattle.intra_coder.specs.Stripes.{samples_from}
+use Rattle.residual_coder.specs.Stripes.{samples_from}
 use Rattle.intra_coder.proofs.luma16.build_block16.Goals as goal
 
 pub returns-clause-samples : goal.returns-clause-samples

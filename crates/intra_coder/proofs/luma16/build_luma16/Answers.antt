@@ -1,8 +1,8 @@
 use Rattle.std.proofs.Common.{ℕ, refl, ◌∙◌, ap}
-use Rattle.spec_built.specs.InOrder.{levels_of_block}
-use Rattle.spec_built.specs.Luma.{build16}
-use Rattle.intra_coder.proofs.InOrderLaws.{built_none, built_next}
-use Rattle.intra_coder.specs.Stripes.{samples_from}
+use Rattle.spec_reconstruction.specs.InOrder.{levels_of_block}
+use Rattle.spec_reconstruction.specs.Luma.{build16}
+use Rattle.residual_coder.proofs.InOrderLaws.{built_none, built_next}
+use Rattle.residual_coder.specs.Stripes.{samples_from}
 use Rattle.intra_coder.proofs.luma16.build_luma16.Goals as goal
 
 pub loop-b-init : goal.loop-b-init

@@ -1,8 +1,8 @@
 use Rattle.std.proofs.Common.{◌≡◌}
 use Rattle.picture_planes.specs.Samples.{SameShape}
-use Rattle.spec_built.specs.InOrder.{built_in_order}
-use Rattle.spec_built.specs.Luma.{build16}
-use Rattle.intra_coder.specs.Stripes.{samples_from}
+use Rattle.spec_reconstruction.specs.InOrder.{built_in_order}
+use Rattle.spec_reconstruction.specs.Luma.{build16}
+use Rattle.residual_coder.specs.Stripes.{samples_from}
 use Rattle.intra_coder.proofs.luma16.build_luma16.Given as goal
 
 abbrev pub invariant-loop-b : goal.invariant-loop-b

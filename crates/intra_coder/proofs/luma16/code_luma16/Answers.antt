@@ -1,9 +1,9 @@
 use Rattle.std.proofs.Common.{true}
 use Rattle.picture_planes.specs.Samples.{samples_of}
 use Rattle.spec_residual.specs.declared.BlockKind.TheVariants.{LumaDc}
-use Rattle.intra_coder.proofs.BlockLaws.{made4}
+use Rattle.residual_coder.proofs.BlockLaws.{made4}
 use Rattle.intra_coder.proofs.Luma16Laws.{prediction16_is, luma16_dc_is, luma16_levels_are, luma16_is_built}
-use Rattle.intra_coder.specs.Stripes.{samples_from}
+use Rattle.residual_coder.specs.Stripes.{samples_from}
 use Rattle.intra_coder.proofs.luma16.code_luma16.Goals as goal
 
 pub unscanned-rows-requires-clause-made : goal.unscanned-rows-requires-clause-made

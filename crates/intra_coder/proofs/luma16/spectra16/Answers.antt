@@ -4,15 +4,17 @@ use Rattle.std.proofs.lemmas.List.{length-set}
 use mir.Val.{SFits}
 use Rattle.enc_tables.specs.Steps.{steps}
 use Rattle.picture_planes.specs.Samples.{samples_of}
-use Rattle.spec_residual.specs.Blocks.{Within, item}
+use Rattle.spec_basics.specs.Bounds.{Within}
+use Rattle.spec_residual.specs.Blocks.{item}
 use Rattle.spec_residual.specs.declared.BlockKind.TheVariants.{Luma4}
-use Rattle.spec_built.specs.declared.Site.{Site}
-use Rattle.spec_built.specs.InOrder.{joined}
-use Rattle.spec_built.specs.Luma.{place16, spectrum16, firsts16}
-use Rattle.spec_built.specs.Residuals.{levels_without_dc}
-use Rattle.intra_coder.specs.Made.{IsQuantised, others16}
-use Rattle.intra_coder.proofs.BlockLaws.{none_assigned, one_assigned, zeros_within, set_within}
-use Rattle.intra_coder.proofs.InOrderLaws.{joined_none, joined_next, piece_long, block_next, all_taken}
+use Rattle.spec_reconstruction.specs.declared.Site.{Site}
+use Rattle.spec_reconstruction.specs.InOrder.{joined}
+use Rattle.spec_reconstruction.specs.Luma.{place16, spectrum16, firsts16}
+use Rattle.spec_reconstruction.specs.Residuals.{levels_without_dc}
+use Rattle.residual_coder.specs.Made.{IsQuantised}
+use Rattle.intra_coder.specs.Made.{others16}
+use Rattle.residual_coder.proofs.BlockLaws.{none_assigned, one_assigned, zeros_within, set_within}
+use Rattle.residual_coder.proofs.InOrderLaws.{joined_none, joined_next, piece_long, block_next, all_taken}
 use Rattle.intra_coder.proofs.luma16.spectra16.Goals as goal
 
 first_at : ℕ → Site → List ℕ → List ℕ → ℕ → ℤ
@@ -56,7 +58,7 @@ loop-b-preserved c =
     let long : length block ≡ 16 = omega arith in
     let piece : length c.copy_from_slice.new.self ≡ 16 = ap (λ (l : List ℤ). length l) c.copy_from_slice.ensures.after ∙ long in
     let chosen = c.copy_from_slice.ensures.after ∙ c.levels_without_dc-block.ensures.value ∙ ap (λ (l : List ℤ). levels_without_dc Luma4 true site.qp l) c.spectrum16-spectrum.ensures.value in
-    let made : Q block = record { small = c.levels_without_dc-block.ensures.small; made = c.levels_without_dc-block.ensures.made } in
+    let made : Q block = record { intra = true; small = c.levels_without_dc-block.ensures.small; made = c.levels_without_dc-block.ensures.made } in
     record {
       long = piece_long c.loop-b.levels c.copy_from_slice.new.self (b * 16) 16 (b * 16 + 16 - b * 16) room piece k ∙ c.loop-b.invariant.long;
       few = simp length-set c.loop-b.invariant.few;

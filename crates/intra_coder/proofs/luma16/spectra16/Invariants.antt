@@ -3,9 +3,9 @@ use Rattle.enc_tables.specs.Steps.{steps}
 use Rattle.picture_planes.specs.Samples.{samples_of}
 use Rattle.spec_residual.specs.Blocks.{AllWithin, item}
 use Rattle.spec_residual.specs.declared.BlockKind.TheVariants.{Luma4}
-use Rattle.spec_built.specs.InOrder.{joined}
-use Rattle.spec_built.specs.Luma.{place16, spectrum16}
-use Rattle.spec_built.specs.Residuals.{levels_without_dc}
+use Rattle.spec_reconstruction.specs.InOrder.{joined}
+use Rattle.spec_reconstruction.specs.Luma.{place16, spectrum16}
+use Rattle.spec_reconstruction.specs.Residuals.{levels_without_dc}
 use Rattle.intra_coder.specs.Made.{BlocksQuantised}
 use Rattle.intra_coder.proofs.luma16.spectra16.Given as goal
 

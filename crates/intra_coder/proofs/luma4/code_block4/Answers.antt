@@ -1,6 +1,6 @@
 use Rattle.picture_planes.specs.Samples.{samples_of}
 use Rattle.intra_coder.proofs.LumaLaws.{choose4_is, build4_is}
-use Rattle.intra_coder.specs.Stripes.{samples_from}
+use Rattle.residual_coder.specs.Stripes.{samples_from}
 use Rattle.intra_coder.proofs.luma4.code_block4.Goals as goal
 
 pub returns-clause-levels : goal.returns-clause-levels

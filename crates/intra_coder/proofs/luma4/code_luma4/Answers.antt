@@ -1,11 +1,11 @@
 use Rattle.std.proofs.Common.{◌≡◌, ◌≤◌, ◌+◌, ◌-◌, ◌*◌, ℕ, ℤ, List, [], take, length, refl, sym, ap, ◌∙◌, arith}
 use Rattle.picture_planes.specs.Samples.{samples_of}
 use Rattle.std.proofs.lemmas.Grind.{common_steps}
-use Rattle.spec_built.specs.InOrder.{coded_in_order, levels_in_order}
-use Rattle.spec_built.specs.Luma.{build4, choose4}
-use Rattle.intra_coder.proofs.InOrderLaws.{piece_long, no_levels, no_samples, next_piece, next_samples}
+use Rattle.spec_reconstruction.specs.InOrder.{coded_in_order, levels_in_order}
+use Rattle.spec_reconstruction.specs.Luma.{build4, choose4}
+use Rattle.residual_coder.proofs.InOrderLaws.{piece_long, no_levels, no_samples, next_piece, next_samples}
 use Rattle.intra_coder.proofs.LumaLaws.{luma4_levels_are, luma4_is_built}
-use Rattle.intra_coder.specs.Stripes.{samples_from}
+use Rattle.residual_coder.specs.Stripes.{samples_from}
 use Rattle.intra_coder.proofs.luma4.code_luma4.Goals as goal
 
 pub loop-b-init : goal.loop-b-init

@@ -1,8 +1,8 @@
 use Rattle.std.proofs.Common.{◌≡◌, ◌*◌, length, take}
 use Rattle.picture_planes.specs.Samples.{SameShape, samples_of}
-use Rattle.spec_built.specs.InOrder.{coded_in_order, levels_in_order}
-use Rattle.spec_built.specs.Luma.{build4, choose4}
-use Rattle.intra_coder.specs.Stripes.{samples_from}
+use Rattle.spec_reconstruction.specs.InOrder.{coded_in_order, levels_in_order}
+use Rattle.spec_reconstruction.specs.Luma.{build4, choose4}
+use Rattle.residual_coder.specs.Stripes.{samples_from}
 use Rattle.intra_coder.proofs.luma4.code_luma4.Given as goal
 
 abbrev pub invariant-loop-b : goal.invariant-loop-b

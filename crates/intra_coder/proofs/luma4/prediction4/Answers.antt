@@ -1,5 +1,5 @@
 use Rattle.intra_coder.proofs.LumaLaws.{prediction4_is}
-use Rattle.intra_coder.specs.Stripes.{samples_from}
+use Rattle.residual_coder.specs.Stripes.{samples_from}
 use Rattle.intra_coder.proofs.luma4.prediction4.Goals as goal
 
 pub returns : goal.returns

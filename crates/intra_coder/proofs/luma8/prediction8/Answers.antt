@@ -1,5 +1,5 @@
 use Rattle.intra_coder.proofs.LumaLaws.{prediction8_is}
-use Rattle.intra_coder.specs.Stripes.{samples_from}
+use Rattle.residual_coder.specs.Stripes.{samples_from}
 use Rattle.intra_coder.proofs.luma8.prediction8.Goals as goal
 
 pub returns : goal.returns

@@ -1,5 +1,0 @@
-use Rattle.intra_coder.proofs.BlockLaws.{place8}
-use Rattle.intra_coder.proofs.blocks.zigzag8.Goals as goal
-
-pub returns-clause-inside : goal.returns-clause-inside
-returns-clause-inside c = place8 c.args.scan

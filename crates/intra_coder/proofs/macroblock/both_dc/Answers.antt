@@ -1,8 +1,0 @@
-use Rattle.std.proofs.Common.{refl, replicate, pos}
-use Rattle.intra_coder.proofs.MacroblockLaws.{levels_beside}
-use Rattle.intra_coder.proofs.macroblock.both_dc.Goals as goal
-
-pub returns : goal.returns
-returns c =
-    levels_beside 4 c.copy_from_slice.new.self c.copy_from_slice-2.new.self (replicate 4 (pos 0)) c.args.cb.now c.args.cr.now
-    c.copy_from_slice.ensures.after c.copy_from_slice-2.ensures.after c.told-cb refl

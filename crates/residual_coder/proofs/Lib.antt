@@ -1,0 +1,7 @@
+pub mod PartLaws
+pub mod BlockLaws
+pub mod StripeLaws
+pub mod InOrderLaws
+pub mod ZeroLaws
+pub mod ChromaLaws
+pub mod PatternLaws

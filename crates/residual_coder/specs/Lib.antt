@@ -1,0 +1,3 @@
+pub mod Stripes
+pub mod Made
+pub mod Inside

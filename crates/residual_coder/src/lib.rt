@@ -1,0 +1,15 @@
+//! Residuals of macroblocks: the levels that a source gives over a prediction, and the samples that a decoder builds of prediction and
+//! levels. The quantiser rounds as for intra macroblocks or as for inter macroblocks, as the caller says.
+#![tactic(auto)]
+
+mod blocks;
+mod chroma;
+mod luma;
+mod parts;
+mod patterns;
+
+pub use blocks::zigzag4;
+pub use chroma::{Chroma, code_chroma};
+pub use luma::{Coded4, Coded8, built_with_dc, code4, code8, levels_without_dc, spectrum4};
+pub use parts::{block_of, block4_at, block8_at, write_block};
+pub use patterns::{bit_if, both_ac, both_dc, chroma_pattern, luma_pattern, some_level};
