@@ -5,18 +5,20 @@ use Rattle.std.proofs.lemmas.List.Elements.{All-nil, All-append, All-take, All-d
 use Rattle.spec_bits.specs.Bits.{IsByte, bits_of_bytes, bytes_of_bits}
 use Rattle.spec_bits.proofs.Digits.{bytes_of_bits-bits_of_bytes, bytes_of_bits-are_bytes}
 use Rattle.spec_bits.proofs.Payloads.{unit_bytes-are_bytes}
-use Rattle.spec_bits.specs.Heads.{sequence_payload, picture_payload}
+use Rattle.spec_headers.specs.HeadFields.{sequence_payload, picture_payload}
 use Rattle.spec_bits.specs.Units.{unit_bytes}
 use Rattle.spec_film.specs.declared.FilmHead.{FilmHead}
 use Rattle.spec_film.specs.Films.{Planes, AllowedHead}
 use Rattle.spec_words.specs.declared.Settings.{Settings}
-use Rattle.spec_slice_layer.specs.Layer.{Format, Slice, layer_payload}
-use Rattle.spec_stream.specs.Decode.{across_of, down_of}
+use Rattle.spec_slice_payload.specs.Layer.{Format, Slice}
+use Rattle.spec_slice_payload.specs.Writing.{layer_payload}
+use Rattle.spec_decoder.specs.Sets.{across_of, down_of}
 use Rattle.spec_stream.specs.Pictures.{IsPicture}
-use Rattle.spec_stream.specs.Samples.{cropped, cropped_plane}
+use Rattle.spec_decoder.specs.Output.{cropped, cropped_plane}
 use Rattle.spec_stream.proofs.PlaneLaws.{cropped_all}
 use Rattle.spec_pictures.specs.Coded.{slice_units, picture_units}
-use Rattle.spec_encoding.specs.Frames.{format_of, picture_of}
+use Rattle.spec_decoder.specs.Macroblocks.{format_of}
+use Rattle.spec_encoding.specs.Frames.{picture_of}
 use Rattle.spec_encoding.specs.Coding.{coded_picture}
 use Rattle.spec_encoding.specs.Encoding.{sequence_of, settled, with_payload, coded_with_payloads, encoded_picture, reconstructed}
 use Rattle.picture_planes.specs.declared.plane.Plane.{Plane}

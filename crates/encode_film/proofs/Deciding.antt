@@ -16,13 +16,13 @@ use Rattle.encode_film.specs.declared.ends.EncodeEnd.{EncodeEnd}
 use Rattle.encode_film.specs.declared.ends.EncodeEnd.TheVariants.{Open, Read, Write, Input, Setting, Long, OutOfMemory}
 use Rattle.encode_film.specs.declared.ends.SettingFault.TheVariants.{Slices}
 use Rattle.encode_film.specs.Answering.{Answers, answer_of, answer_by, end_of}
-use Rattle.encode_film.specs.Films.{HeadIs, FilmTaken, IsFilm}
+use Rattle.y4m_film.specs.Taken.{HeadIs, FilmTaken, IsFilm}
 use Rattle.encode_film.specs.Leaving.{Leaves}
 use Rattle.encode_film.specs.Limits.{too_many_slices, first_long}
 use Rattle.encode_film.specs.Outputs.{Names}
 use Rattle.encode_film.specs.Runs.{Allowed, OpenFailed, ReadFault, in_head, in_pictures, WriteFault, head_cut, picture_cut, closing_stream, closing_recon, NoFilm, no_head, cut_short, TooLong, NoFault}
 use Rattle.encode_film.proofs.Growing.{long_there}
-use Rattle.encode_film.proofs.Remaining.{film_is}
+use Rattle.y4m_film.proofs.Behind.{film_is}
 
 -- CAUSES
 

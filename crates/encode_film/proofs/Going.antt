@@ -10,9 +10,6 @@ use Rattle.enc_edge.specs.Seen.{Seen}
 use Rattle.enc_edge.specs.Calls.{took, wrote}
 use Rattle.enc_edge.specs.Reads.{Took, TookSome, ReadFailed}
 use Rattle.enc_edge.proofs.Spots.{took_more, took_none, wrote_none, wrote_more}
-use Rattle.y4m_film.specs.Sizes.{FitsHead}
-use Rattle.picture_planes.specs.declared.picture.Picture.{Picture}
-use Rattle.picture_planes.specs.Pictures.{SameShapes}
 use Rattle.spec_film.specs.declared.FilmHead.{FilmHead}
 use Rattle.spec_film.specs.declared.InputFault.TheVariants.{Form}
 use Rattle.spec_film.specs.Films.{Planes, Ended, Faulty, Next, Broken, most_pictures, frame_step}
@@ -26,7 +23,7 @@ use Rattle.encode_film.specs.Limits.{is_long, first_long}
 use Rattle.encode_film.specs.Outputs.{written, shown_film, PictureCut}
 use Rattle.encode_film.specs.Pictures.{PictureEncoded, PictureLeft, PicturesEnd, PictureRead, PictureUnread, cut_picture, PicturesLeft, EndLeft}
 use Rattle.encode_film.proofs.Growing.{stream_push, film_push, stream_none, film_none, first_none, short_push}
-use Rattle.encode_film.proofs.Remaining.{Remains, remains_none, taken_of, remains_more, remains_over, none_left, remains_broken}
+use Rattle.y4m_film.proofs.Remaining.{Remains, remains_none, taken_of, remains_more, remains_over, none_left, remains_broken, none_more}
 
 -- so many pictures were encoded
 pub record Going (head : FilmHead) (settings : Settings) (number : ℕ) (old new : Seen) : Type 0 where
@@ -188,9 +185,6 @@ going_last head settings number old mid new last g (Ok done) t = going_end head 
 going_last head settings number old mid new last g (Err Read) t = going_unread head settings number old mid new g t
 going_last head settings number old mid new last g (Err (Input Form)) t =
     going_broken head settings number old mid new g (subst (λ k. TookSome (λ left. frame_step k head left ≡ Broken Form) mid new) (none_more number last) t)
-  where
-    none_more : (number : ℕ) → number ≡ 1000000 → 0 ≡ most_pictures - number
-    none_more number last = omega arith
 going_last head settings number old mid new last g (Err (Write out)) t = absurd t
 going_last head settings number old mid new last g (Err (Open place)) t = absurd t
 going_last head settings number old mid new last g (Err (Setting fault)) t = absurd t
@@ -201,14 +195,3 @@ going_last head settings number old mid new last g (Err OutOfMemory) t = absurd 
 pub handed_on : (P : Result (Unit {0}) EncodeEnd → Type 0) (r : Result (Unit {0}) EncodeEnd) (end : EncodeEnd) → IsErrAnd r (λ e. e ≡ end) → P (Err end) → P r
 handed_on P (Ok done) end is p = absurd is
 handed_on P (Err e) end is p = subst (λ x. P (Err x)) (sym is) p
-
--- the picture keeps the sizes of the film
-pub fits_still : (head : FilmHead) (old new : Picture) → SameShapes old new → FitsHead head old → FitsHead head new
-fits_still head old new same fits = record {
-  luma_width = same.0.0 ∙ fits.luma_width;
-  luma_height = same.0.1 ∙ fits.luma_height;
-  cb_width = same.1.0 ∙ fits.cb_width;
-  cb_height = same.1.1 ∙ fits.cb_height;
-  cr_width = same.2.0 ∙ fits.cr_width;
-  cr_height = same.2.1 ∙ fits.cr_height;
-}

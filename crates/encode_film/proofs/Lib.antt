@@ -3,7 +3,6 @@ pub mod Coding
 pub mod Deciding
 pub mod Going
 pub mod Growing
-pub mod Remaining
 pub mod Running
 pub mod Showing
 pub mod Sizing

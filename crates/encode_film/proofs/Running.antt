@@ -1,5 +1,5 @@
 -- What the calls of a run make together.
-use Rattle.std.proofs.Common.{ℕ, ◌+◌, ◌≤◌, ◌≡◌, true, false, List, [], ◌∷◌, ◌++◌, length, drop, Option, Some, None, refl, ap, sym, ◌∙◌, subst, arith}
+use Rattle.std.proofs.Common.{ℕ, ◌+◌, ◌≤◌, ◌≡◌, true, false, List, [], ◌∷◌, ◌++◌, length, drop, None, refl, ap, ◌∙◌, subst, arith}
 use Rattle.std.specs.Prelude.{IfSome, Result, Ok, Err}
 use Rattle.std.specs.Option.{option_map}
 use Rattle.enc_edge.specs.declared.studio.Out.{Out}
@@ -8,25 +8,26 @@ use Rattle.enc_edge.specs.declared.studio.Place.TheVariants as places
 use Rattle.enc_edge.specs.Seen.{Seen}
 use Rattle.enc_edge.specs.Calls.{took, wrote, opened, shut, OpeningFailed, LaterFailed}
 use Rattle.enc_edge.specs.Reads.{Took, TookSome, ReadFailed}
-use Rattle.enc_edge.proofs.Spots.{drop_more, took_more}
+use Rattle.enc_edge.proofs.Spots.{took_more}
 use Rattle.y4m_film.specs.Writes.{FrontWritten}
 use Rattle.spec_film.specs.declared.FilmHead.{FilmHead}
 use Rattle.spec_film.specs.declared.InputFault.{InputFault}
 use Rattle.spec_film.specs.declared.InputFault.TheVariants.{Form}
-use Rattle.spec_film.specs.Films.{AllowedHead, Film, Planes, FilmEnd, Ended, Faulty, most_pictures, pictures_of, read_head, film_of, film_from}
+use Rattle.spec_film.specs.Films.{AllowedHead, Planes, FilmEnd, Ended, Faulty, most_pictures, pictures_of, read_head}
 use Rattle.spec_film.specs.Written.{head_text}
 use Rattle.spec_words.specs.declared.Settings.{Settings}
 use Rattle.spec_encoding.specs.Encoding.{encoded_stream}
 use Rattle.encode_film.specs.declared.ends.EncodeEnd.{EncodeEnd}
 use Rattle.encode_film.specs.declared.ends.EncodeEnd.TheVariants.{Open, Read, Write, Input, Setting, Long, OutOfMemory}
 use Rattle.encode_film.specs.Closing.{ClosedLeft}
-use Rattle.encode_film.specs.Films.{HeadIs, FilmTaken, IsFilm, PicturesTaken}
+use Rattle.y4m_film.specs.Taken.{HeadIs, FilmTaken, IsFilm, PicturesTaken}
 use Rattle.encode_film.specs.Leaving.{Leaves}
 use Rattle.encode_film.specs.Limits.{too_many_slices}
 use Rattle.encode_film.specs.Outputs.{Names, shown_film, written, reading, all_open, encoding}
 use Rattle.encode_film.specs.Pictures.{PicturesEnd, PictureRead, PictureUnread, PictureUnwritten, cut_head, cut_picture, PictureTooLong, PicturesLeft}
 use Rattle.encode_film.specs.Runs.{Encoded, OpenFailed, ReadFault, in_head, in_pictures, HeadRead, NextRead, AllEncoded, WriteFault, head_cut, picture_cut, closing_stream, closing_recon, NoFilm, no_head, cut_short, SlicesRefused, TooLong}
-use Rattle.encode_film.proofs.Remaining.{film_is, film_taken}
+use Rattle.y4m_film.proofs.Remaining.{of_both}
+use Rattle.y4m_film.proofs.Behind.{told_both, told_taken, told_film, told_none, told_no_head}
 use Rattle.encode_film.proofs.Showing.{shows, reads}
 
 -- the head was read from the first n bytes of the input, which stands open, and the slices are few enough
@@ -35,16 +36,12 @@ pub record AtHead (names : Names) (settings : Settings) (head : FilmHead) (n : �
   pub change : mid ≡ reading names n old
   pub told : IfSome old.input.bytes (HeadIs head n)
 
-second_of : (P Q : List ℕ → Type 0) (o : Option (List ℕ)) → IfSome o (λ left. P left × Q left) → IfSome o Q
-second_of P Q None both = tt
-second_of P Q (Some left) both = both.1
-
 pub head_read : (names : Names) (settings : Settings) (head : FilmHead) (n : ℕ) (old first second : Seen) → AllowedHead head → first ≡ opened places.Input names.input old
     → Took n (λ left. (n ≤ length left) × HeadIs head n left) first second → AtHead names settings head n old second
 head_read names settings head n old first second allowed is t = record {
   allowed = allowed;
   change = t.change ∙ ap (took places.Input n) is;
-  told = subst (λ (s : Seen). IfSome s.input.bytes (HeadIs head n)) is (second_of (λ left. n ≤ length left) (HeadIs head n) first.input.bytes t.content);
+  told = subst (λ (s : Seen). IfSome s.input.bytes (HeadIs head n)) is (of_both (λ left. n ≤ length left) (HeadIs head n) first.input.bytes t.content);
 }
 
 -- BEFORE AN OUTPUT IS OPEN
@@ -55,16 +52,8 @@ head_unread names settings old first new is failed = in_head failed.0 (subst (λ
 
 -- there is no head
 pub no_head_there : (names : Names) (settings : Settings) (old first new : Seen) → first ≡ opened places.Input names.input old → TookSome (λ left. read_head left ≡ None) first new → NoFilm names settings Form old new
-unfolding film_of
 no_head_there names settings old first new is t =
-    no_head t.0 (t.1.change ∙ ap (took places.Input t.0) is) (go old.input.bytes (subst (λ (s : Seen). IfSome s.input.bytes (λ left. read_head left ≡ None)) is t.1.content))
-  where
-    none_is : (left : List ℕ) → read_head left ≡ None → film_of left ≡ film_from None
-    none_is left e = ap film_from e
-
-    go : (o : Option (List ℕ)) → IfSome o (λ left. read_head left ≡ None) → IfSome o (λ left. ((film_of left).head ≡ None) × ((film_of left).end ≡ Faulty Form))
-    go None e = tt
-    go (Some left) e = (ap (λ (x : Film). x.head) (none_is left e), ap (λ (x : Film). x.end) (none_is left e))
+    no_head t.0 (t.1.change ∙ ap (took places.Input t.0) is) (told_no_head old.input.bytes (subst (λ (s : Seen). IfSome s.input.bytes (λ left. read_head left ≡ None)) is t.1.content))
 
 -- a picture would have too many slices
 pub slices_refused : (names : Names) (settings : Settings) (head : FilmHead) (n : ℕ) (old mid : Seen) → AtHead names settings head n old mid → too_many_slices head settings ≡ true → SlicesRefused names settings old mid
@@ -109,14 +98,10 @@ both_open names settings head n old mid next last r few is_next is_last = record
   told = r.told;
 }
 
--- bytes behind the head, told of all bytes
-behind : (names : Names) (settings : Settings) (head : FilmHead) (n : ℕ) (old mid : Seen) (P Q : List ℕ → Type 0) → Begun names settings head n old mid
-    → ((left : List ℕ) → HeadIs head n left → P (drop n left) → Q left) → IfSome mid.input.bytes P → IfSome old.input.bytes Q
-behind names settings head n old mid P Q b turn told = go old.input.bytes b.told (subst (λ (s : Seen). IfSome s.input.bytes P) b.change told)
-  where
-    go : (o : Option (List ℕ)) → IfSome o (HeadIs head n) → IfSome (option_map (drop n) o) P → IfSome o Q
-    go None h p = tt
-    go (Some left) h p = turn left h p
+-- what is told of the bytes behind the head
+behind : (names : Names) (settings : Settings) (head : FilmHead) (n : ℕ) (old mid : Seen) (P : List ℕ → Type 0) → Begun names settings head n old mid
+    → IfSome mid.input.bytes P → IfSome (option_map (drop n) old.input.bytes) P
+behind names settings head n old mid P b told = subst (λ (s : Seen). IfSome s.input.bytes P) b.change told
 
 -- what the pictures wrote, from the start on
 from_start : (names : Names) (settings : Settings) (head : FilmHead) (n m : ℕ) (pictures : List Planes) (old mid last : Seen) → Begun names settings head n old mid
@@ -129,24 +114,15 @@ from_start names settings head n m pictures old mid last b is =
     took_both : (n m : ℕ) → took places.Input m (took places.Input n (opened places.Input names.input old)) ≡ took places.Input (n + m) (opened places.Input names.input old)
     took_both n m = took_more n m (opened places.Input names.input old)
 
-film_whole : (head : FilmHead) (n : ℕ) (pictures : List Planes) (end : FilmEnd) (left : List ℕ) → HeadIs head n left → pictures_of most_pictures head (drop n left) ≡ (pictures, end) → IsFilm left head pictures end
-film_whole head n pictures end left is all =
-    let f = film_is head n left is in
-    record {
-      head_is = ap (λ (x : Film). x.head) f;
-      pictures_are = ap (λ (x : Film). x.pictures) f ∙ ap (λ (p : List Planes × FilmEnd). p.0) all;
-      end_is = ap (λ (x : Film). x.end) f ∙ ap (λ (p : List Planes × FilmEnd). p.1) all;
-    }
-
 taken : (names : Names) (settings : Settings) (head : FilmHead) (n m : ℕ) (pictures : List Planes) (old mid : Seen) → Begun names settings head n old mid → IfSome mid.input.bytes (PicturesTaken head m pictures)
     → IfSome old.input.bytes (λ left. FilmTaken left (n + m) head pictures)
 taken names settings head n m pictures old mid b told =
-    behind names settings head n old mid (PicturesTaken head m pictures) (λ left. FilmTaken left (n + m) head pictures) b (λ left h t. film_taken head n m pictures left h t) told
+    told_taken head n m pictures old.input.bytes b.told (behind names settings head n old mid (PicturesTaken head m pictures) b told)
 
 ended : (names : Names) (settings : Settings) (head : FilmHead) (n : ℕ) (pictures : List Planes) (end : FilmEnd) (old mid : Seen) → Begun names settings head n old mid
     → IfSome mid.input.bytes (λ left. pictures_of most_pictures head left ≡ (pictures, end)) → IfSome old.input.bytes (λ left. IsFilm left head pictures end)
 ended names settings head n pictures end old mid b told =
-    behind names settings head n old mid (λ left. pictures_of most_pictures head left ≡ (pictures, end)) (λ left. IsFilm left head pictures end) b (λ left h all. film_whole head n pictures end left h all) told
+    told_film head n pictures end old.input.bytes b.told (behind names settings head n old mid (λ left. pictures_of most_pictures head left ≡ (pictures, end)) b told)
 
 cut : (names : Names) (settings : Settings) (head : FilmHead) (n : ℕ) (fault : InputFault) (old mid new : Seen) → Begun names settings head n old mid → PicturesEnd head settings (Faulty fault) mid new
     → NoFilm names settings fault old new
@@ -217,14 +193,10 @@ all_encoded names settings head n old mid last b e = record {
   pictures = e.pictures;
   now = from_start names settings head n e.count e.pictures old mid last b e.change;
   allowed = record { few = b.few; short = e.short };
-  whole = both (λ left. drop (n + e.count) left ≡ []) (λ left. IsFilm left head e.pictures Ended) old.input.bytes
-      (behind names settings head n old mid (λ left. drop e.count left ≡ []) (λ left. drop (n + e.count) left ≡ []) b (λ left h none. sym (drop_more n e.count left) ∙ none) (e.taken refl))
+  whole = told_both (λ left. drop (n + e.count) left ≡ []) (λ left. IsFilm left head e.pictures Ended) old.input.bytes
+      (told_none head n e.count old.input.bytes b.told (behind names settings head n old mid (λ left. drop e.count left ≡ []) b (e.taken refl)))
       (ended names settings head n e.pictures Ended old mid b e.told);
 }
-  where
-    both : (P Q : List ℕ → Type 0) (o : Option (List ℕ)) → IfSome o P → IfSome o Q → IfSome o (λ left. P left × Q left)
-    both P Q None p q = tt
-    both P Q (Some left) p q = (p, q)
 
 encoded : (names : Names) (settings : Settings) (head : FilmHead) (n : ℕ) (old mid last new : Seen) → settings.qp ≤ 51 → 1 ≤ settings.slices → Begun names settings head n old mid → PicturesEnd head settings Ended mid last
     → new ≡ shut (places.Output Recon) (shut (places.Output Stream) last) → Encoded names settings old new

@@ -1,7 +1,6 @@
 pub mod Answering
 pub mod Closing
 pub mod Coders
-pub mod Films
 pub mod Leaving
 pub mod Lending
 pub mod Limits

@@ -17,7 +17,7 @@ use Rattle.spec_stream.specs.Pictures.{IsPicture}
 use Rattle.spec_encoding.specs.Encoding.{encoded_picture, encoded_stream, reconstructed}
 use Rattle.encode_film.specs.declared.ends.EncodeEnd.{EncodeEnd}
 use Rattle.encode_film.specs.declared.ends.EncodeEnd.TheVariants.{Open, Read, Write, Input, Setting, Long, OutOfMemory}
-use Rattle.encode_film.specs.Films.{PicturesTaken}
+use Rattle.y4m_film.specs.Taken.{PicturesTaken}
 use Rattle.encode_film.specs.Limits.{is_long, first_long}
 use Rattle.encode_film.specs.Outputs.{written, shown_film, PictureCut}
 

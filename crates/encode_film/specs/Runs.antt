@@ -13,7 +13,7 @@ use Rattle.spec_film.specs.Films.{Planes, Ended, Faulty, film_of}
 use Rattle.spec_film.specs.Written.{head_text}
 use Rattle.spec_words.specs.declared.Settings.{Settings}
 use Rattle.spec_encoding.specs.Encoding.{encoded_stream, reconstruction}
-use Rattle.encode_film.specs.Films.{HeadIs, FilmTaken, IsFilm}
+use Rattle.y4m_film.specs.Taken.{HeadIs, FilmTaken, IsFilm}
 use Rattle.encode_film.specs.Limits.{too_many_slices, is_long, first_long}
 use Rattle.encode_film.specs.Outputs.{Names, reading, all_open, encoding, PictureCut}
 use Rattle.encode_film.specs.Showing.{Shows, Reads}

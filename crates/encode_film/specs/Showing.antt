@@ -1,8 +1,8 @@
 -- What a decoder reads and shows of the stream of a film.
 use Rattle.std.specs.Prelude.{ℕ, ◌≡◌, List, Some}
 use Rattle.spec_film.specs.Films.{Planes}
-use Rattle.spec_decoding.specs.Macroblocks.{Slice}
-use Rattle.spec_decoding.specs.Frames.{decode, slices_read}
+use Rattle.spec_decoder.specs.Macroblocks.{Slice}
+use Rattle.spec_decoder.specs.Frames.{decode, slices_read}
 
 -- every decoder shows these bytes as these pictures
 abbrev pub Shows : List ℕ → List Planes → Type 0

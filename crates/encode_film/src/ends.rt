@@ -12,7 +12,8 @@ pub enum SettingFault {
 /// Why a film wasn't encoded to its end.
 #[derive(Clone, Copy, Debug, PartialEq, Eq)]
 pub enum EncodeEnd {
-    /// A file couldn't be opened. Nothing was written then; where it is the input, nothing was read, and else the film's head and no more.
+    /// A file couldn't be opened. Nothing was written then; where it is the input, nothing was read, and else the
+    /// film's head and no more.
     Open(Place),
     /// Reading the input failed.
     Read,

@@ -89,7 +89,7 @@ pub(crate) fn encode_pictures<R, S: Studio, G: Gate + Sync>(
             Err(FrameFault::ReadFault) => return Err(EncodeEnd::Read),
             Err(FrameFault::Form) => return Err(EncodeEnd::Input(InputFault::Form)),
         }
-        is_picture(head, picture);
+        lemma_is_picture(head, picture);
         encode_picture(
             rt, studio, gate, head, settings, coder, number, picture, unit,
         )?;
@@ -98,24 +98,24 @@ pub(crate) fn encode_pictures<R, S: Studio, G: Gate + Sync>(
 }
 
 // What stands in a slice of bytes is below 256.
-fn are_bytes(bytes: &[u8])
+fn lemma_are_bytes(bytes: &[u8])
     ensures { All IsByte bytes.now }
 {}
 
-fn has_bytes(plane: &Plane)
+fn lemma_has_bytes(plane: &Plane)
     ensures { All IsByte (samples_of plane.now) }
 {
-    are_bytes(plane.rows_from(0, 0));
+    lemma_are_bytes(plane.rows_from(0, 0));
 }
 
 // A picture of the film's sizes is a picture of the film: its samples are bytes.
-fn is_picture(head: &FilmHead, picture: &Picture)
+fn lemma_is_picture(head: &FilmHead, picture: &Picture)
     requires { FitsHead head.now picture.now }
     ensures { IsPicture head.now (planes_of picture.now) }
 {
-    has_bytes(&picture.y);
-    has_bytes(&picture.cb);
-    has_bytes(&picture.cr);
+    lemma_has_bytes(&picture.y);
+    lemma_has_bytes(&picture.cb);
+    lemma_has_bytes(&picture.cr);
 }
 
 // Behind the last picture that a film may have, the input has to end.

@@ -87,8 +87,8 @@ fn encode_film<R: AllocGlobal, S: Studio, G: Gate + Sync>(
     close_outputs(studio)
 }
 
-/// Encodes the film of one name as a stream of IDR pictures, one access unit for each, under the second name, and writes the film that a decoder shows of
-/// it under the third.
+/// Encodes the film of one name as a stream of IDR pictures, one access unit for each, under the second name, and
+/// writes the film that a decoder shows of it under the third.
 ///
 /// All memory is taken behind the film's head, before an output is opened.
 pub fn encode<R: AllocGlobal, S: Studio, G: Gate + Sync>(

@@ -31,10 +31,11 @@ impl UnitCoder {
     ghost use Rattle.spec_film.specs.Films.{AllowedHead};
     ghost use Rattle.picture_planes.specs.Pictures.{planes_of};
     ghost use Rattle.y4m_film.specs.Sizes.{FitsHead};
-    ghost use Rattle.spec_stream.specs.Decode.{across_of, down_of};
+    ghost use Rattle.spec_decoder.specs.Sets.{across_of, down_of};
     ghost use Rattle.spec_encoding.specs.Frames.{picture_of};
     ghost use Rattle.spec_encoding.specs.Coding.{coded_picture};
     ghost use Rattle.spec_encoding.specs.Encoding.{sequence_of, settled, encoded_picture};
+    ghost use Rattle.picture_coder.specs.Coders.{lent_picture};
     ghost use Rattle.picture_coder.specs.Sizes.{HasSizes};
     ghost use Rattle.encode_film.specs.Coders.{IsMadeFor};
     ghost use Rattle.encode_film.specs.Lending.{LendsKept};
@@ -55,9 +56,9 @@ impl UnitCoder {
         Ok(UnitCoder { coder, payload })
     }
 
-    /// Appends the access unit of the picture of this number, counted from 0, and keeps the picture that a decoder shows of it. The gate
-    /// is asked before each row of macroblocks is planned. `Full`: the access unit has more than 100,000,000 bits, and nothing was
-    /// appended.
+    /// Appends the access unit of the picture of this number, counted from 0, and keeps the picture that a decoder
+    /// shows of it. The gate is asked before each row of macroblocks is planned. `Full`: the access unit has more
+    /// than 100,000,000 bits, and nothing was appended.
     pub fn code<R, G: Gate + Sync>(
         &mut self,
         rt: &R,
@@ -75,9 +76,9 @@ impl UnitCoder {
         requires empty { out.old.text ≡ [] }
         requires room { out.old.room ≡ 100000000 }
         ensures made { IsMadeFor self.new head.now settings.now }
-        ensures sizes { FitsHead head.now self.new.coder.picture }
+        ensures sizes { FitsHead head.now (lent_picture self.new.coder) }
         ensures unit { Appends out.old out.new (bits_of_bytes (encoded_picture head.now settings.now number (planes_of source.now))) result }
-        ensures picture { IfOk result (λ _. planes_of self.new.coder.picture ≡ picture_of (across_of (sequence_of head.now)) (down_of (sequence_of head.now)) [] (coded_picture (settled head.now settings.now) number (planes_of source.now))) }
+        ensures picture { IfOk result (λ _. planes_of (lent_picture self.new.coder) ≡ picture_of (across_of (sequence_of head.now)) (down_of (sequence_of head.now)) [] (coded_picture (settled head.now settings.now) number (planes_of source.now))) }
     {
         plan_access_unit(rt, &mut self.coder, head, settings, source, gate);
         code_access_unit(
@@ -95,7 +96,7 @@ impl UnitCoder {
     /// Lends the picture that it keeps. It has to have its sizes and margins again when `code` is called.
     pub fn decoded(&mut self) -> &mut Picture
         ensures* writes_back { sem 𝓛 (LendsKept self.entry result) }
-        ensures value { result.now ≡ self.old.coder.picture }
+        ensures value { result.now ≡ lent_picture self.old.coder }
     {
         self.coder.decoded()
     }

@@ -10,9 +10,9 @@ use Rattle.enc_edge.specs.Calls.{took}
 use Rattle.enc_edge.specs.Reads.{Took, TookSome}
 use Rattle.enc_edge.proofs.Spots.{took_more, took_none, read_step}
 use Rattle.picture_planes.specs.declared.plane.Plane.{Plane}
-use Rattle.picture_planes.specs.Over.{over}
+use Rattle.spec_film.specs.Over.{over}
 use Rattle.picture_planes.specs.Samples.{samples_of, SameShape}
-use Rattle.picture_planes.proofs.OverLaws.{over_nothing, over_next, over_all}
+use Rattle.spec_film.proofs.OverLaws.{over_nothing, over_next, over_all}
 use Rattle.picture_planes.proofs.SampleLaws.{samples_length}
 
 -- the first rows of the plane have the bytes left

@@ -1,7 +1,8 @@
-pub mod Numbers
 pub mod Lines
 pub mod Filling
 pub mod Texts
 pub mod Frames
 pub mod Fits
 pub mod Appending
+pub mod Remaining
+pub mod Behind

@@ -4,7 +4,7 @@ ghost use Rattle.std.specs.Option.{option_map};
 ghost use Rattle.spec_film.specs.Films.{AllowedHead, frame_step, Next, Broken, most_pictures, planes_at, planes_count};
 ghost use Rattle.spec_film.specs.declared.InputFault.TheVariants.{Form};
 ghost use Rattle.enc_edge.specs.Reads.{Took, TookSome, ReadFailed};
-ghost use Rattle.picture_planes.specs.Over.{over};
+ghost use Rattle.spec_film.specs.Over.{over};
 ghost use Rattle.picture_planes.specs.Samples.{samples_of, SameShape};
 ghost use Rattle.picture_planes.specs.Pictures.{planes_of, SameShapes};
 ghost use Rattle.y4m_film.specs.Sizes.{FitsHead};

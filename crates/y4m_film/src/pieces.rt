@@ -3,7 +3,8 @@ ghost use Rattle.std.specs.Prelude.{◌≡◌, ◌≤◌, ◌<◌, ◌+◌, leng
 
 use enc_edge::{Failed, Out, Studio, write_full};
 
-/// How many bytes are read at once, at most, and how many are written at once, at least, but for the last ones of a picture.
+/// How many bytes are read at once, at most, and how many are written at once, at least, but for the last ones of a
+/// picture.
 pub(crate) const PIECE: usize = 65_536;
 
 // Room for the longest row of samples behind a piece that isn't full yet.
@@ -62,8 +63,8 @@ impl Waiting {
         }
     }
 
-    /// Lets these bytes wait too, and appends all that waits to an output where it is a piece. `Failed`: a write failed, and a front of
-    /// what waited and of these bytes was appended.
+    /// Lets these bytes wait too, and appends all that waits to an output where it is a piece. `Failed`: a write
+    /// failed, and a front of what waited and of these bytes was appended.
     pub(crate) fn gather<S: Studio>(
         &mut self,
         studio: &mut S,

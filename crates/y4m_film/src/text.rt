@@ -2,7 +2,8 @@
 ghost use Rattle.std.specs.Prelude.{◌≡◌, ◌≤◌, ◌<◌, ◌+◌, ◌*◌, ◌^◌, ℕ, List, length, IfSome, IsTrue};
 ghost use Rattle.std.specs.List.{list_all, position_or_len};
 ghost use Rattle.std.specs.Char.{is_ascii_digit};
-ghost use Rattle.spec_film.specs.Films.{number_of, size_of, decimal, is_space, head_from, head_of_sizes, head_of_line};
+ghost use Rattle.spec_basics.specs.Decimals.{number_of, value_of_digits};
+ghost use Rattle.spec_film.specs.Films.{size_of, is_space, head_from, head_of_sizes, head_of_line};
 
 use spec_film::FilmHead;
 
@@ -10,7 +11,7 @@ use spec_film::FilmHead;
 fn decimal_value(digits: &[u8]) -> u32
     requires four { length digits.now ≤ 4 }
     requires digits { IsTrue (list_all is_ascii_digit digits.now) }
-    ensures { result ≡ decimal digits.now }
+    ensures { result ≡ value_of_digits digits.now }
 {
     let mut value = 0;
     for digit in digits {
@@ -26,9 +27,9 @@ fn are_digits(bytes: &[u8]) -> bool
 }
 
 // The number that 1 to 4 decimal digits write.
-#[tactic(auto, unfolding(spec_film::specs::Films::number_of))]
+#[tactic(auto, unfolding(spec_basics::specs::Decimals::number_of))]
 fn number(digits: &[u8]) -> Option<u32>
-    ensures { result ≡ number_of digits.now }
+    ensures { result ≡ number_of 4 digits.now }
 {
     if digits.is_empty() {
         return None;

@@ -34,8 +34,8 @@ fn head_line(head: &FilmHead) -> ArrayString<80>
     line
 }
 
-/// Appends the head of a film to an output: the line `YUV4MPEG2 W<width> H<height> F<num>:<den> Ip C420`. `Failed`: a write failed, so the
-/// count of later faults of that output rose, and a front of the line was appended.
+/// Appends the head of a film to an output: the line `YUV4MPEG2 W<width> H<height> F<num>:<den> Ip C420`. `Failed`: a
+/// write failed, so the count of later faults of that output rose, and a front of the line was appended.
 pub fn put_head<S: Studio>(studio: &mut S, out: Out, head: &FilmHead) -> Result<(), Failed>
     ensures ok { IfOk result (λ _. S.seen studio.new ≡ wrote (Place.Output out) (head_text head.now) (S.seen studio.old)) }
     ensures err { IfErr result (λ _. FrontWritten out (head_text head.now) (S.seen studio.old) (S.seen studio.new)) }
@@ -81,9 +81,9 @@ fn put_planes<S: Studio>(
     put_plane(studio, out, waiting, &picture.cr)
 }
 
-/// Appends a picture of a film to an output: the line `FRAME` and the samples of the three planes, in pieces of 65,536 bytes or more but
-/// for the last one. `Failed`: a write failed, so the count of later faults of that output rose, and a front of these bytes was
-/// appended.
+/// Appends a picture of a film to an output: the line `FRAME` and the samples of the three planes, in pieces of
+/// 65,536 bytes or more but for the last one. `Failed`: a write failed, so the count of later faults of that output
+/// rose, and a front of these bytes was appended.
 #[tactic(auto, unfolding(spec_film::specs::Written::picture_text))]
 pub fn put_picture<S: Studio>(studio: &mut S, out: Out, picture: &Picture) -> Result<(), Failed>
     ensures ok { IfOk result (λ _. S.seen studio.new ≡ wrote (Place.Output out) (picture_text (planes_of picture.now)) (S.seen studio.old)) }

@@ -2,7 +2,7 @@ use Rattle.std.proofs.Common.{◌≡◌, ◌≤◌, ◌-◌, ap, length, drop, O
 use Rattle.spec_film.specs.Films.{Next, most_pictures, frame_step}
 use Rattle.picture_planes.specs.Pictures.{planes_of}
 use Rattle.encode_film.specs.Pictures.{cut_head, PicturesLeft}
-use Rattle.encode_film.proofs.Remaining.{of_both}
+use Rattle.y4m_film.proofs.Remaining.{of_both}
 use Rattle.encode_film.proofs.Going.{going_none, going_more, going_end, going_broken, going_unread, going_stopped, going_last, handed_on}
 use Rattle.encode_film.proofs.Sizing.{sizes_still}
 use Rattle.encode_film.proofs.pictures.encode_pictures.Goals as goal
@@ -29,7 +29,7 @@ loop-number-preserved g c =
     let next = of_both (λ left. t.0 ≤ length left) (λ left. frame_step (most_pictures - number) c.args.head.now left ≡ Next planes (drop t.0 left)) (seen c.loop-number.studio).input.bytes t.1.content in
     record {
       going = going_more c.args.head.now c.args.settings.now number t.0 planes (seen c.args.studio.now) (seen c.loop-number.studio) (seen c.next_picture.new.studio) (seen c.encode_picture.new.studio)
-          c.loop-number-test.true c.loop-number.invariant.going t.1.change next c.in_ok-encode_picture.ensures.left c.is_picture.ensures;
+          c.loop-number-test.true c.loop-number.invariant.going t.1.change next c.in_ok-encode_picture.ensures.left c.lemma_is_picture.ensures;
       coder = c.encode_picture.ensures.coder;
       sizes = sizes_still c.args.head.now.width c.args.head.now.height c.loop-number.picture c.next_picture.new.picture c.next_picture.ensures.shapes c.loop-number.invariant.sizes;
       room = c.encode_picture.ensures.room;

@@ -1,6 +1,6 @@
 use Rattle.std.proofs.Common.{Ok, ap}
 use Rattle.picture_planes.specs.Pictures.{planes_of}
-use Rattle.encode_film.proofs.Remaining.{never_next}
+use Rattle.y4m_film.proofs.Remaining.{never_next}
 use Rattle.encode_film.proofs.pictures.end_pictures.Goals as goal
 
 pub returns-in-Ok-true : goal.returns-in-Ok-true

@@ -1,4 +1,4 @@
-use Rattle.y4m_film.proofs.Numbers.{Valued}
+use Rattle.spec_basics.proofs.DecimalLaws.{Valued}
 use Rattle.y4m_film.proofs.text.decimal_value.Given as goal
 
 abbrev pub invariant-loop-digit : goal.invariant-loop-digit

@@ -7,9 +7,9 @@ use Rattle.enc_edge.specs.Reads.{Took, TookSome}
 use Rattle.enc_edge.proofs.Spots.{drop_more}
 use Rattle.spec_film.specs.declared.FilmHead.{FilmHead}
 use Rattle.spec_film.specs.declared.InputFault.TheVariants.{Form}
-use Rattle.spec_film.specs.Films.{Film, Planes, FilmEnd, Ended, Faulty, Over, Next, Broken, most_pictures, frame_step, pictures_of, film_of, film_from}
+use Rattle.spec_film.specs.Films.{Planes, FilmEnd, Ended, Faulty, Over, Next, Broken, most_pictures, frame_step, pictures_of}
 use Rattle.spec_film.proofs.FilmLaws.{pictures_over, pictures_broken, pictures_next, next_none}
-use Rattle.encode_film.specs.Films.{HeadIs, FilmTaken, PicturesTaken}
+use Rattle.y4m_film.specs.Taken.{PicturesTaken}
 
 -- the pictures so far, and those that the bytes behind them have, are all pictures, and both end alike
 pub record Remains (head : FilmHead) (number n : ℕ) (pictures : List Planes) (left : List ℕ) : Type 0 where
@@ -111,19 +111,6 @@ never_next head n planes old new t = (n, record { change = t.change; content = g
     go None t = tt
     go (Some left) t = absurd (next_none head left planes (drop n left) t.1)
 
--- WITH THE HEAD
-
-pub film_is : (head : FilmHead) (n : ℕ) (left : List ℕ) → HeadIs head n left → film_of left ≡ film_from (Some (head, drop n left))
-unfolding film_of
-film_is head n left is = ap film_from is
-
--- the pictures behind a head
-pub film_taken : (head : FilmHead) (n m : ℕ) (pictures : List Planes) (left : List ℕ) → HeadIs head n left → PicturesTaken head m pictures (drop n left) → FilmTaken left (n + m) head pictures
-film_taken head n m pictures left is taken =
-    let f = film_is head n left is in
-    let behind : drop (n + m) left ≡ drop m (drop n left) = sym (drop_more n m left) in
-    record {
-      head_is = ap (λ (x : Film). x.head) f;
-      pictures_are = ap (λ (rest : List ℕ). pictures ++ (pictures_of (most_pictures - length pictures) head rest).0) behind ∙ taken.all ∙ sym (ap (λ (x : Film). x.pictures) f);
-      end_is = ap (λ (rest : List ℕ). (pictures_of (most_pictures - length pictures) head rest).1) behind ∙ taken.end ∙ sym (ap (λ (x : Film). x.end) f);
-    }
+-- behind the last picture that a film may have, none may come
+pub none_more : (number : ℕ) → number ≡ 1000000 → 0 ≡ most_pictures - number
+none_more number last = omega arith
