@@ -3,7 +3,8 @@ use Rattle.std.proofs.Common.{ℕ, zero, suc, ℤ, pos, negsuc, ◌≤◌, Bool,
 use Rattle.std.proofs.Math.Dec.{leb→le}
 use Rattle.std.proofs.lemmas.Int.{ints}
 use lib.Ieee.Fits.{and_l, and_r}
-use Rattle.spec_residual.specs.Blocks.{Within, AllWithin, item}
+use Rattle.spec_basics.specs.Bounds.{Within}
+use Rattle.spec_residual.specs.Blocks.{AllWithin, item}
 
 abbrev pub size_of : ℤ → ℕ
 size_of (pos n) = n

@@ -1,6 +1,7 @@
 // One random 4x4 block and one random 8x8 block at every quantisation parameter, through the quantiser and back.
 ghost use Rattle.std.specs.Prelude.{◌≡◌, ◌≤◌, ◌<◌};
-ghost use Rattle.spec_residual.specs.Blocks.{AllWithin, Within};
+ghost use Rattle.spec_residual.specs.Blocks.{AllWithin};
+ghost use Rattle.spec_basics.specs.Bounds.{Within};
 ghost use Rattle.spec_residual.specs.Levels.{places};
 
 use crate::table::{DIFFERENCES, LEVELS, RESCALED, RESIDUALS, SUMS8};

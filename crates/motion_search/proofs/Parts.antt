@@ -3,7 +3,8 @@ use Rattle.std.proofs.Common.{◌≡◌, ℕ, zero, suc, ◌+◌, ◌-◌, ◌*�
 use Rattle.std.proofs.lemmas.Int.{ints}
 use Rattle.std.specs.Prelude.{ℤ, pos, ◌+ℤ◌}
 use Rattle.std.specs.Int.{abs_diff}
-use Rattle.spec_kernels.specs.Sums.{sum_below, block_sum, shifted}
+use Rattle.spec_basics.specs.Sums.{sum_below}
+use Rattle.spec_kernels.specs.Sums.{block_sum, shifted}
 use Rattle.spec_kernels.proofs.SumLaws.{block-same}
 use Rattle.spec_search.specs.declared.blocks.Block.{Block}
 use Rattle.spec_search.specs.declared.blocks.Spot.{Spot}

@@ -10,7 +10,7 @@ mod steps;
 mod window;
 
 pub use alone::search_alone;
-pub use quarters::refine;
+pub use quarters::{refine, refine_from};
 pub use spec_search::{Best, Block};
 pub use steps::{Steps, begun};
 pub use window::search;

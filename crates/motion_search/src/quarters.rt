@@ -1,34 +1,57 @@
 // The refinement of a vector to quarter samples.
-ghost use Rattle.std.specs.Prelude.{◌≡◌, ◌≤◌, ◌<◌, ◌+◌, ◌*◌, ℕ, pos, negsuc, ◌≤ℤ◌, ◌+ℤ◌, ◌-ℤ◌, ◌⊎◌};
+ghost use Rattle.std.specs.Prelude.{◌≡◌, ◌≤◌, ◌<◌, ◌+◌, ◌*◌, ℕ, pos, negsuc, ◌≤ℤ◌, ◌+ℤ◌, ◌-ℤ◌, ◌⊎◌, IfSome};
 ghost use Rattle.picture_planes.specs.Margins.{IsFilled};
 ghost use Rattle.subpel_filter.specs.Predicted.{IsShort};
 ghost use Rattle.spec_search.specs.Scan.{InRange};
 ghost use Rattle.spec_search.specs.Refine.{square_place, turned, in_quarters, IsBestOfNine, IsRefined};
 ghost use Rattle.motion_search.specs.Planes.{Searchable, IsBlockOf, SameSize};
-ghost use Rattle.motion_search.specs.Quarters.{quarter_costs, IsWithin};
+ghost use Rattle.spec_inter.specs.Blocks.{RowsOf};
+ghost use Rattle.subpel_filter.specs.Halves.{AreSized, AreHalves};
+ghost use Rattle.motion_search.specs.Quarters.{quarter_costs, kept_costs, costs_by, samples_by, IsWithin};
 
 use enc_tables::Vector;
 use lane_kernels::{sad_block8, sad_block16};
 use picture_planes::Plane;
 use spec_search::{Best, Block};
-use subpel_filter::luma_block;
+use subpel_filter::{HalfPlanes, luma_block, luma_from};
 
-// The sum of absolute differences of the block and its prediction by a vector.
-fn quarter_difference(source: &Plane, reference: &Plane, block: Block, v: Vector) -> u32
-    requires planes { Searchable source.now reference.now block }
+// The samples that a vector leads to: filtered anew, or from half samples where some are given.
+fn predicted_by(
+    reference: &Plane,
+    halves: Option<&HalfPlanes>,
+    block: Block,
+    v: Vector,
+) -> [u8; 256]
+    requires margin { reference.now.pad ≡ 40 }
+    requires filled { IsFilled reference.now }
+    requires block { IsBlockOf reference.now block }
+    requires sizes { IfSome halves (λ kept. AreSized reference.now kept.now) }
     requires short { IsWithin 131 v }
-    ensures { result ≡ quarter_costs source.now reference.now block v }
+    ensures { RowsOf (samples_by reference.now halves.entry block v) block.w block.h result }
 {
     let mut predicted = [0u8; 256];
-    luma_block(
-        reference,
-        block.x,
-        block.y,
-        v,
-        block.w,
-        block.h,
-        &mut predicted,
-    );
+    let (x, y, w, h) = (block.x, block.y, block.w, block.h);
+    match halves {
+        None => luma_block(reference, x, y, v, w, h, &mut predicted),
+        Some(kept) => luma_from(reference, kept, x, y, v, w, h, &mut predicted),
+    }
+    predicted
+}
+
+// The sum of absolute differences of the block and its prediction by a vector.
+fn quarter_difference(
+    source: &Plane,
+    reference: &Plane,
+    halves: Option<&HalfPlanes>,
+    block: Block,
+    v: Vector,
+) -> u32
+    requires planes { Searchable source.now reference.now block }
+    requires sizes { IfSome halves (λ kept. AreSized reference.now kept.now) }
+    requires short { IsWithin 131 v }
+    ensures { result ≡ costs_by source.now reference.now halves.entry block v }
+{
+    let predicted = predicted_by(reference, halves, block, v);
     let own = source.rows_from(
         (block.x + source.pad) as usize,
         (block.y + source.pad) as usize,
@@ -85,27 +108,50 @@ fn vector_at(centre: Vector, step: u32, turn: u32) -> Vector
 fn best_of_nine(
     source: &Plane,
     reference: &Plane,
+    halves: Option<&HalfPlanes>,
     block: Block,
     centre: Vector,
     step: u32,
 ) -> (Vector, u32)
     requires planes { Searchable source.now reference.now block }
+    requires sizes { IfSome halves (λ kept. AreSized reference.now kept.now) }
     requires step { (1 ≤ step) × (step ≤ 2) }
     requires centre { (m : ℕ) × (m + step ≤ 131) × IsWithin m centre }
-    ensures best { IsBestOfNine (quarter_costs source.now reference.now block) centre step result.0 }
-    ensures cost { result.1 ≡ quarter_costs source.now reference.now block result.0 }
+    ensures best { IsBestOfNine (costs_by source.now reference.now halves.entry block) centre step result.0 }
+    ensures cost { result.1 ≡ costs_by source.now reference.now halves.entry block result.0 }
 {
     let mut best = vector_at(centre, step, 0);
-    let mut least = quarter_difference(source, reference, block, best);
+    let mut least = quarter_difference(source, reference, halves, block, best);
     for turn in 1..9u32 {
         let v = vector_at(centre, step, turn);
-        let sad = quarter_difference(source, reference, block, v);
+        let sad = quarter_difference(source, reference, halves, block, v);
         if sad < least {
             best = v;
             least = sad;
         }
     }
     (best, least)
+}
+
+// Two rounds of nine about a whole-sample vector.
+fn refined(
+    source: &Plane,
+    reference: &Plane,
+    halves: Option<&HalfPlanes>,
+    block: Block,
+    best: &Best,
+) -> (Vector, u32)
+    requires planes { Searchable source.now reference.now block }
+    requires sizes { IfSome halves (λ kept. AreSized reference.now kept.now) }
+    requires best { InRange 32 best.now.dx best.now.dy }
+    ensures { IsRefined (costs_by source.now reference.now halves.entry block) best.now.dx best.now.dy result.0 result.1 }
+{
+    let centre = Vector {
+        x: 4 * best.dx,
+        y: 4 * best.dy,
+    };
+    let (half, _) = best_of_nine(source, reference, halves, block, centre, 2);
+    best_of_nine(source, reference, halves, block, half, 1)
 }
 
 /// Refines the best whole-sample vector of a block to quarter samples: of the vector and its eight neighbours at 2
@@ -123,10 +169,26 @@ pub fn refine(source: &Plane, reference: &Plane, block: Block, best: &Best) -> (
     requires best { InRange 32 best.now.dx best.now.dy }
     ensures { IsRefined (quarter_costs source.now reference.now block) best.now.dx best.now.dy result.0 result.1 }
 {
-    let centre = Vector {
-        x: 4 * best.dx,
-        y: 4 * best.dy,
-    };
-    let (half, _) = best_of_nine(source, reference, block, centre, 2);
-    best_of_nine(source, reference, block, half, 1)
+    refined(source, reference, None, block, best)
+}
+
+/// Refines like `refine`, over the blocks that `luma_from` gives, whatever the half planes hold. Where they are filled from
+/// the reference by `fill_halves`, the answer is that of `refine`. They have the reference's size and margin.
+pub fn refine_from(
+    source: &Plane,
+    reference: &Plane,
+    halves: &HalfPlanes,
+    block: Block,
+    best: &Best,
+) -> (Vector, u32)
+    requires margin { reference.now.pad ≡ 40 }
+    requires filled { IsFilled reference.now }
+    requires sizes { SameSize source.now reference.now }
+    requires halves { AreSized reference.now halves.now }
+    requires block { IsBlockOf source.now block }
+    requires best { InRange 32 best.now.dx best.now.dy }
+    ensures kept { IsRefined (kept_costs source.now reference.now halves.now block) best.now.dx best.now.dy result.0 result.1 }
+    ensures same { AreHalves reference.now halves.now → IsRefined (quarter_costs source.now reference.now block) best.now.dx best.now.dy result.0 result.1 }
+{
+    refined(source, reference, Some(halves), block, best)
 }

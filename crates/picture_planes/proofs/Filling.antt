@@ -5,7 +5,7 @@ use Rattle.std.proofs.lemmas.Int.{ints}
 use Rattle.std.proofs.lemmas.Bool.{cases_lt}
 use Rattle.spec_film.specs.Places.{clamped_to, sample_at}
 use Rattle.picture_planes.specs.declared.plane.Plane.{Plane}
-use Rattle.picture_planes.specs.Samples.{row_of, rows_to, samples_of, at, SameShape}
+use Rattle.picture_planes.specs.Samples.{buffer, row_start, row_of, rows_to, samples_of, at, SameShape}
 use Rattle.picture_planes.specs.Margins.{nearest, buffer_width, buffer_height, buffer_row, buffer_at, inward, IsFilled}
 use Rattle.picture_planes.specs.Edges.{with_sides, Edged}
 use Rattle.picture_planes.proofs.SampleLaws.{rows_agree, row_of_samples, within}
@@ -153,14 +153,31 @@ nearest_same p q shape alike x y =
     ∙ sym (nearest_is p x y)
 
 -- planes of one shape with the same bytes have the same samples
-pub samples_same : (p q : Plane) → SameShape p q → q.bytes.items ≡ p.bytes.items → samples_of q ≡ samples_of p
+row_same : (p q : Plane) → SameShape p q → buffer q ≡ buffer p → (y : ℕ) → row_of q y ≡ row_of p y
+row_same p q shape same y =
+    ap₂ (λ (w pad : ℕ). slice_range (buffer q) ((y + pad) * (w + 2 * pad) + pad) ((y + pad) * (w + 2 * pad) + pad + w)) shape.0 shape.2
+    ∙ ap (λ (l : List ℕ). slice_range l (row_start p y) (row_start p y + p.width)) same
+
+pub samples_same : (p q : Plane) → SameShape p q → buffer q ≡ buffer p → samples_of q ≡ samples_of p
 unfolding samples_of
-samples_same p q shape same = ap (λ (n : ℕ). rows_to q n) shape.1 ∙ rows_agree p q p.height (λ y h. rw (shape.0, shape.2, same) refl)
+samples_same p q shape same = ap (λ (n : ℕ). rows_to q n) shape.1 ∙ rows_agree p q p.height (λ y h. row_same p q shape same y)
+
+byte_same : (p q : Plane) → SameShape p q → buffer q ≡ buffer p → (c r : ℕ) → buffer_at q c r ≡ buffer_at p c r
+unfolding buffer_at
+byte_same p q shape same c r =
+    ap₂ (λ (w pad : ℕ). get_or (buffer q) (r * (w + 2 * pad) + c) 0) shape.0 shape.2
+    ∙ ap (λ (l : List ℕ). get_or l (r * buffer_width p + c) 0) same
 
 -- and where the margin of one is filled, so is that of the other
-pub filled_same : (p q : Plane) → SameShape p q → q.bytes.items ≡ p.bytes.items → IsFilled p → IsFilled q
-unfolding buffer_at
-filled_same p q shape same filled = record { at = λ c r h k. rw (shape.0, shape.1, shape.2, same) (filled.at c r (rw (shape.0, shape.2) at h) (rw (shape.1, shape.2) at k)) }
+pub filled_same : (p q : Plane) → SameShape p q → buffer q ≡ buffer p → IsFilled p → IsFilled q
+filled_same p q shape same filled = record { at = at }
+  where
+    at : (c r : ℕ) → c < buffer_width q → r < buffer_height q → buffer_at q c r ≡ nearest q (inward q c) (inward q r)
+    at c r h k =
+        byte_same p q shape same c r
+        ∙ filled.at c r (omega (arith, h, shape.0, shape.2)) (omega (arith, k, shape.1, shape.2))
+        ∙ sym (nearest_same p q shape (samples_same p q shape same) (inward p c) (inward p r))
+        ∙ ap (λ (pad : ℕ). nearest q (pos c -ℤ pos pad) (pos r -ℤ pos pad)) (sym shape.2)
 
 -- the samples of a row inside the plane, whatever the margins hold
 pub inside_nearest : (p : Plane) (y : ℤ) (row c : ℕ) → pos row ≡ y +ℤ pos p.pad → pos 0 ≤ℤ y → y <ℤ pos p.height → p.pad ≤ c → c < p.pad + p.width → buffer_at p c row ≡ nearest p (inward p c) y

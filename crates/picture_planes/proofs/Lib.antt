@@ -1,4 +1,3 @@
-pub mod OverLaws
 pub mod RowLaws
 pub mod SampleLaws
 pub mod Setting

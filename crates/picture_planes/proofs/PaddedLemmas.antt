@@ -10,8 +10,8 @@ use Rattle.std.proofs.lemmas.List.{with_items_is}
 use Rattle.picture_planes.specs.declared.plane.Plane.{Plane}
 use Rattle.picture_planes.specs.Margins.{buffer_width, buffer_height, buffer_row, with_buffer_row}
 use Rattle.picture_planes.specs.Edges.{OneRow}
-use Rattle.picture_planes.specs.Over.{over}
-use Rattle.picture_planes.proofs.OverLaws.{over_length, over_inside, over_before, over_after}
+use Rattle.spec_film.specs.Over.{over}
+use Rattle.spec_film.proofs.OverLaws.{over_length, over_inside, over_before, over_after}
 
 module _ (p : Plane) where
   abbrev S : ℕ

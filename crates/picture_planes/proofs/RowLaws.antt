@@ -4,8 +4,8 @@ use native.Mathlib.Nat.{mul-le-mul_right}
 use Rattle.std.proofs.lemmas.List.{with_items_is}
 use Rattle.picture_planes.specs.declared.plane.Plane.{Plane}
 use Rattle.picture_planes.specs.Samples.{row_start, row_of, with_row}
-use Rattle.picture_planes.specs.Over.{over}
-use Rattle.picture_planes.proofs.OverLaws.{over_length, over_inside, over_before, over_after}
+use Rattle.spec_film.specs.Over.{over}
+use Rattle.spec_film.proofs.OverLaws.{over_length, over_inside, over_before, over_after}
 
 module _ (p : Plane) where
   abbrev stride : ℕ

@@ -6,8 +6,8 @@ use Rattle.std.proofs.lemmas.Bool.{cases_lt}
 use Rattle.std.proofs.lemmas.List.{drop-drop, drop-take, drop-replicate, take-replicate, length-replicate, replicate-append-replicate}
 use Rattle.picture_planes.specs.declared.plane.Plane.{Plane}
 use Rattle.picture_planes.specs.Samples.{row_start, row_of, rows_to, samples_of, with_row}
-use Rattle.picture_planes.specs.Over.{over}
-use Rattle.picture_planes.proofs.OverLaws.{within_first, over_first, over_second}
+use Rattle.spec_film.specs.Over.{over}
+use Rattle.spec_film.proofs.OverLaws.{within_first, over_first, over_second}
 use Rattle.picture_planes.proofs.RowLaws.{row_fits, row_written, row_kept_above, row_kept_below}
 
 length_part : (xs : List ℕ) (s w : ℕ) → s + w ≤ length xs → length (slice_range xs s (s + w)) ≡ w

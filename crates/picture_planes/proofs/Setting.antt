@@ -3,8 +3,8 @@ use Rattle.std.proofs.Common.{◌≡◌, ◌≤◌, ◌<◌, ◌+◌, ◌*◌, �
 use Rattle.std.proofs.lemmas.Grind.{common_steps}
 use Rattle.picture_planes.specs.declared.plane.Plane.{Plane}
 use Rattle.picture_planes.specs.Samples.{samples_of, with_row, SameShape}
-use Rattle.picture_planes.specs.Over.{over}
-use Rattle.picture_planes.proofs.OverLaws.{over_nothing, over_next}
+use Rattle.spec_film.specs.Over.{over}
+use Rattle.spec_film.proofs.OverLaws.{over_nothing, over_next}
 use Rattle.picture_planes.proofs.SampleLaws.{samples_written, samples_length, before_end}
 
 -- the first n rows of these samples are written from row `first` on

@@ -1,5 +1,4 @@
 pub mod Clamped
-pub mod Over
 pub mod Samples
 pub mod Pictures
 pub mod Margins

@@ -4,7 +4,7 @@ use Rattle.std.specs.Borrow.{Lends, MutBor, Fml, u8, Array}
 use Rattle.picture_planes.specs.declared.plane.Plane.{Plane}
 use Rattle.picture_planes.specs.declared.picture.Picture.{Picture}
 use Rattle.picture_planes.specs.contracts.picture.Picture.{the_row}
-use Rattle.picture_planes.specs.Samples.{with_row, samples_of, SameShape}
+use Rattle.picture_planes.specs.Samples.{buffer, with_row, samples_of, SameShape}
 use Rattle.picture_planes.specs.Margins.{IsFilled}
 use Rattle.spec_film.specs.Films.{Planes}
 
@@ -34,7 +34,7 @@ SameShapes old new = SameShape old.y new.y × SameShape old.cb new.cb × SameSha
 
 -- every byte of new is that of old, in the margins too
 abbrev pub SameBytes : Picture → Picture → Type 0
-SameBytes old new = (new.y.bytes.items ≡ old.y.bytes.items) × (new.cb.bytes.items ≡ old.cb.bytes.items) × (new.cr.bytes.items ≡ old.cr.bytes.items)
+SameBytes old new = (buffer new.y ≡ buffer old.y) × (buffer new.cb ≡ buffer old.cb) × (buffer new.cr ≡ buffer old.cr)
 
 -- the margins of all three planes are filled
 abbrev pub AreFilled : Picture → Type 0

@@ -5,13 +5,17 @@ use Rattle.std.specs.Vec.{with_items, with_items_from}
 use Rattle.picture_planes.specs.declared.plane.Plane.{Plane}
 use Rattle.picture_planes.specs.contracts.plane.Plane.{the_row}
 
+-- the buffer: all samples row by row, with the margins
+abbrev pub buffer : Plane → List ℕ
+buffer p = p.bytes.items
+
 -- where row y begins in the buffer, without its margin
 abbrev pub row_start : Plane → ℕ → ℕ
 row_start p y = (y + p.pad) * (p.width + 2 * p.pad) + p.pad
 
 -- row y without its margin
 abbrev pub row_of : Plane → ℕ → List ℕ
-row_of p y = slice_range p.bytes.items (row_start p y) (row_start p y + p.width)
+row_of p y = slice_range (buffer p) (row_start p y) (row_start p y + p.width)
 
 -- the sample at column x of row y
 abbrev pub at : Plane → ℕ → ℕ → ℕ

@@ -21,7 +21,7 @@ pub struct Picture {
 
 impl Picture {
     ghost use Rattle.picture_planes.specs.Samples.{row_of, samples_of};
-    ghost use Rattle.picture_planes.specs.Over.{over};
+    ghost use Rattle.spec_film.specs.Over.{over};
     ghost use Rattle.picture_planes.specs.Placed.{RowsPlaced};
     ghost use Rattle.picture_planes.specs.Pictures.{plane_of, planes_of, SameShapes, SameBytes, AreFilled, LendsPictureRow};
 

@@ -1,8 +1,8 @@
 // A plane is one buffer of rows, with a margin on each side.
 ghost use Rattle.std.specs.Prelude.{◌≡◌, ◌≢◌, ◌≤◌, ◌<◌, ◌+◌, ◌-◌, ◌*◌, ℕ, List, length, vec_len, IfOk, replicate, slice_range, drop, pos, ◌+ℤ◌, ◌≤ℤ◌, ◌<ℤ◌};
 ghost use Rattle.std.specs.Borrow.{sem};
-ghost use Rattle.spec_film.specs.Places.{clamped_to};
-ghost use Rattle.picture_planes.specs.Over.{over};
+ghost use Rattle.spec_film.specs.Places.{clamped_to, place_of};
+ghost use Rattle.spec_film.specs.Over.{over};
 
 use std::alloc::{AllocError as OutOfMemory, Global};
 
@@ -38,14 +38,15 @@ fn buffer_place(y: i32, pad: u32) -> usize
     requires low { pos 0 ≤ℤ (y +ℤ pos pad) }
     requires high { y <ℤ pos 2400 }
     requires pad { pad ≤ 40 }
-    ensures { pos result ≡ y +ℤ pos pad }
+    ensures value { pos result ≡ y +ℤ pos pad }
+    ensures place { result ≡ place_of (y +ℤ pos pad) }
 {
     (y + pad as i32) as usize
 }
 
 impl Plane {
-    ghost use Rattle.picture_planes.specs.Samples.{row_start, row_of, samples_of, at, LendsRow, LendsBuffer, SameShape};
-    ghost use Rattle.picture_planes.specs.Margins.{buffer_width, buffer_height, buffer_row, IsFilled, IsInMargin, HoldsNearest, IsWindow, IsBlock, IsNearestWindow, LendsBufferRow};
+    ghost use Rattle.picture_planes.specs.Samples.{buffer, row_start, row_of, samples_of, at, LendsRow, LendsBuffer, SameShape};
+    ghost use Rattle.picture_planes.specs.Margins.{buffer_width, buffer_height, buffer_row, IsFilled, IsInMargin, HoldsNearest, IsWindow, IsBlock, IsNearestWindow, LendsBufferRow, LendsPaddedRow, row_place};
     ghost use Rattle.picture_planes.specs.Edges.{with_sides, OneRow, Edged};
     ghost use Rattle.picture_planes.specs.Placed.{RowsPlaced};
 
@@ -56,7 +57,7 @@ impl Plane {
         requires height { (1 ≤ height) × (height ≤ 2304) }
         requires pad { pad ≤ 40 }
         ensures shape { IfOk result (λ p. (p.width ≡ width) × (p.height ≡ height) × (p.pad ≡ pad)) }
-        ensures bytes { IfOk result (λ p. p.bytes.items ≡ replicate ((width + 2 * pad) * (height + 2 * pad)) 0) }
+        ensures bytes { IfOk result (λ p. buffer p ≡ replicate ((width + 2 * pad) * (height + 2 * pad)) 0) }
         ensures samples { IfOk result (λ p. samples_of p ≡ replicate (height * width) 0) }
     {
         let count = (width + 2 * pad) as usize * (height + 2 * pad) as usize;
@@ -107,7 +108,7 @@ impl Plane {
     /// `(y + pad) * (width + 2 * pad) + pad + x`.
     pub fn buffer_mut(&mut self) -> &mut [u8]
         ensures* writes_back { sem 𝓛 (LendsBuffer self.entry result) }
-        ensures value { result.now ≡ self.old.bytes.items }
+        ensures value { result.now ≡ buffer self.old }
         ensures len { length result.now ≡ (self.old.width + 2 * self.old.pad) * (self.old.height + 2 * self.old.pad) }
     {
         self.bytes.as_mut_slice()
@@ -145,7 +146,7 @@ impl Plane {
     pub fn copy_from(&mut self, other: &Plane)
         requires { SameShape other.now self.old }
         ensures shape { SameShape self.old self.new }
-        ensures bytes { self.new.bytes.items ≡ other.now.bytes.items }
+        ensures bytes { buffer self.new ≡ buffer other.now }
         ensures samples { samples_of self.new ≡ samples_of other.now }
         ensures filled { IsFilled other.now → IsFilled self.new }
     {
@@ -171,7 +172,7 @@ impl Plane {
         requires down { row < buffer_height self.now }
         requires across { column + count ≤ buffer_width self.now }
         ensures len { length result.now ≡ count }
-        ensures list { result.now ≡ slice_range self.now.bytes.items (row * buffer_width self.now + column) (row * buffer_width self.now + column + count) }
+        ensures list { result.now ≡ slice_range (buffer self.now) (row * buffer_width self.now + column) (row * buffer_width self.now + column + count) }
         ensures value { IsWindow self.now column row count result.now }
         ensures filled { IsFilled self.now → IsNearestWindow self.now column row count result.now }
     {
@@ -185,7 +186,7 @@ impl Plane {
     pub fn rows_from(&self, column: usize, row: usize) -> &[u8]
         requires down { row < buffer_height self.now }
         requires across { column < buffer_width self.now }
-        ensures list { result.now ≡ drop (row * buffer_width self.now + column) self.now.bytes.items }
+        ensures list { result.now ≡ drop (row * buffer_width self.now + column) (buffer self.now) }
         ensures value { IsBlock self.now column row result.now }
         ensures len { (w h : ℕ) → column + w ≤ buffer_width self.now → row + h ≤ buffer_height self.now → 0 < h → (h - 1) * buffer_width self.now + w ≤ length result.now }
     {
@@ -204,6 +205,18 @@ impl Plane {
         let start = row * width;
         let end = start + width;
         self.bytes.slice_mut(start..end)
+    }
+
+    /// Lends row `y` with its margins for writing, for `y` within the margin; all else stays. What is written is what
+    /// `padded_row` gives.
+    pub fn padded_row_mut(&mut self, y: i32) -> &mut [u8]
+        requires { IsInMargin self.old y }
+        ensures* writes_back { sem 𝓛 (LendsPaddedRow self.entry y result) }
+        ensures value { result.now ≡ buffer_row self.old (row_place self.old y) }
+        ensures len { length result.now ≡ buffer_width self.old }
+    {
+        let row = buffer_place(y, self.pad);
+        self.buffer_row_mut(row)
     }
 
     // Fills the margins of a row of the buffer.

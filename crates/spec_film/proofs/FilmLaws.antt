@@ -6,7 +6,8 @@ use Rattle.std.proofs.lemmas.Grind.{common_steps}
 use Rattle.std.proofs.lemmas.Bool.Decides.{nat_tests}
 use Rattle.spec_film.specs.declared.FilmHead.{FilmHead}
 use Rattle.spec_film.specs.declared.InputFault.{InputFault}
-use Rattle.spec_film.specs.Films.{Planes, is_space, Ended, Faulty, size_of, size_from, is_size, number_of, head_from, head_of_sizes, head_of_line, head_with, line_of, has_line, read_head, AllowedHead, luma_count, chroma_count, planes_count, planes_at, has_picture, read_picture, Over, Next, Broken, step_from, frame_step, pictures_from, pictures_of}
+use Rattle.spec_film.specs.Films.{Planes, is_space, Ended, Faulty, size_of, size_from, is_size, head_from, head_of_sizes, head_of_line, head_with, line_of, has_line, read_head, AllowedHead, luma_count, chroma_count, planes_count, planes_at, has_picture, read_picture, Over, Next, Broken, step_from, frame_step, pictures_from, pictures_of}
+use Rattle.spec_basics.specs.Decimals.{number_of}
 
 -- what is given under a test, and was given, is given where the test holds
 pub given : {A : Type 0} (b : Bool) (x : Option A) (y : A) → cond b x None ≡ Some y → (b ≡ true) × (x ≡ Some y)
@@ -117,7 +118,7 @@ line_allowed line head e =
         let width : List ℕ = before_first is_space text in
         let tail : List ℕ = drop (length width) text in
         let g = given (starts_with nat_eq tail (codes " H")) (head_from (size_of 4096 width) (size_of 2304 (drop 2 tail))) head e in
-        allowed_from (number_of width) (number_of (drop 2 tail)) head g.1
+        allowed_from (number_of 4 width) (number_of 4 (drop 2 tail)) head g.1
 
 head_with_is : (o : Option FilmHead) (after : List ℕ) (head : FilmHead) (rest : List ℕ) → head_with o after ≡ Some (head, rest) → o ≡ Some head
 head_with_is None after head rest e = absurd (cc)

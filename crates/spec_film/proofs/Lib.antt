@@ -1,2 +1,3 @@
 pub mod FilmLaws
-mod WrittenRows
+mod WrittenExamples
+pub mod OverLaws

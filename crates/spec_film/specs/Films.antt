@@ -1,7 +1,7 @@
 -- Films: what the bytes of a YUV4MPEG2 file say. A film is a head line and then pictures, each a line and three planes.
-use Rattle.std.specs.Prelude.{ℕ, zero, suc, ◌+◌, ◌-◌, ◌*◌, ◌/◌, ◌%◌, ◌==◌, ◌≡◌, ◌≤◌, nat_le, nat_eq, ◌&&◌, Bool, List, [], ◌∷◌, length, take, drop, codes, fold, Option, Some, None, if◌then◌else◌}
-use Rattle.std.specs.List.{list_all, starts_with, before_first}
-use Rattle.std.specs.Char.{is_ascii_digit}
+use Rattle.std.specs.Prelude.{ℕ, zero, suc, ◌+◌, ◌*◌, ◌/◌, ◌%◌, ◌==◌, ◌≡◌, ◌≤◌, nat_le, nat_eq, ◌&&◌, Bool, List, [], ◌∷◌, length, take, drop, codes, Option, Some, None, if◌then◌else◌}
+use Rattle.std.specs.List.{starts_with, before_first}
+use Rattle.spec_basics.specs.Decimals.{number_of}
 use Rattle.spec_film.specs.declared.FilmHead.{FilmHead}
 use Rattle.spec_film.specs.declared.InputFault.{InputFault}
 use Rattle.spec_film.specs.declared.InputFault.TheVariants.{Form}
@@ -34,16 +34,6 @@ is_line_feed byte = byte == 10
 abbrev pub is_space : ℕ → Bool
 is_space byte = byte == 32
 
--- the value of decimal digits
-abbrev pub decimal : List ℕ → ℕ
-decimal digits = fold (λ n d. 10 * n + (d - 48)) 0 digits
-
--- 1 to 4 decimal digits
-unfoldable pub number_of : List ℕ → Option ℕ
-number_of digits =
-    if nat_le 1 (length digits) && nat_le (length digits) 4 && list_all is_ascii_digit digits
-    then Some (decimal digits) else None
-
 -- a size is a multiple of 16, from 16 to the most that is allowed
 abbrev pub is_size : ℕ → ℕ → Bool
 is_size most n = nat_le 16 n && nat_le n most && (n % 16 == 0)
@@ -52,9 +42,9 @@ abbrev pub size_from : ℕ → Option ℕ → Option ℕ
 size_from most None = None
 size_from most (Some n) = if is_size most n then Some n else None
 
--- the size that these digits write
+-- the size that 1 to 4 digits write
 abbrev pub size_of : ℕ → List ℕ → Option ℕ
-size_of most digits = size_from most (number_of digits)
+size_of most digits = size_from most (number_of 4 digits)
 
 -- the head of both sizes; the rate is 25 pictures per second
 abbrev pub head_from : Option ℕ → Option ℕ → Option FilmHead

@@ -1,3 +1,4 @@
 pub mod Films
 pub mod Places
 pub mod Written
+pub mod Over

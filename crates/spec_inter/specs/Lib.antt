@@ -3,3 +3,4 @@ pub mod Places
 pub mod Luma
 pub mod Chroma
 pub mod Blocks
+pub mod Halves

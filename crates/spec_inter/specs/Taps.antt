@@ -1,7 +1,7 @@
 -- Half samples (ITU-T H.264, clause 8.4.2.2.1), and the mean of two samples.
 use Rattle.std.specs.Prelude.{ℕ, ℤ, pos, ◌+◌, ◌/◌, ◌+ℤ◌, ◌-ℤ◌, ◌*ℤ◌}
 use Rattle.std.specs.Int.{int_shr}
-use Rattle.enc_tables.specs.Samples.{clip1}
+use Rattle.spec_basics.specs.Clip.{clip1}
 
 -- the taps 1, -5, 20, 20, -5, 1
 abbrev pub tap : ℤ → ℤ → ℤ → ℤ → ℤ → ℤ → ℤ

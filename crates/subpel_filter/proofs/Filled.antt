@@ -15,7 +15,7 @@ use Rattle.spec_inter.specs.Places.{whole, fraction}
 use Rattle.spec_inter.specs.Luma.{along, down, position_of, quarter_of, first_of, second_of, about, inter_luma}
 use Rattle.spec_inter.specs.Chroma.{eighth_of, inter_chroma}
 use Rattle.subpel_filter.specs.Near.{near_at, quarter_at, eighth_in}
-use Rattle.subpel_filter.specs.Predicted.{luma_from, chroma_from}
+use Rattle.subpel_filter.specs.Predicted.{luma_at, chroma_at}
 
 pub record Agree (f g : ℕ → ℕ → ℕ) : Type 0 where
   pub at : (k l : ℕ) → k < 6 → l < 6 → f k l ≡ g k l
@@ -57,12 +57,12 @@ fraction_8 t a (pos k) e = omega (arith, ints)
 fraction_8 t a (negsuc k) e = omega (arith, ints)
 
 -- a byte of the buffer is the sample at its place
-byte_is : (p : Plane) (c r : ℕ) (x y : ℤ) → IsFilled p → c < buffer_width p → r < buffer_height p → pos c -ℤ pos p.pad ≡ x → pos r -ℤ pos p.pad ≡ y → buffer_at p c r ≡ sample_at p.width p.height (samples_of p) x y
+pub byte_is : (p : Plane) (c r : ℕ) (x y : ℤ) → IsFilled p → c < buffer_width p → r < buffer_height p → pos c -ℤ pos p.pad ≡ x → pos r -ℤ pos p.pad ≡ y → buffer_at p c r ≡ sample_at p.width p.height (samples_of p) x y
 byte_is p c r x y filled h k a b = filled.at c r h k ∙ ap₂ (nearest p) a b ∙ nearest_is p x y
 
 -- what the buffer gives is the sample of the definition
 pub luma_is : (p : Plane) (v : Vector) (x y i j s t : ℕ) → IsFilled p → p.pad ≡ 40 → pos s ≡ pos (4 * (x + 38)) +ℤ v.x → pos t ≡ pos (4 * (y + 38)) +ℤ v.y
-    → s / 4 + i + 5 < buffer_width p → t / 4 + j + 5 < buffer_height p → quarter_at p (s % 4) (t % 4) (s / 4) (t / 4) i j ≡ luma_from p x y v i j
+    → s / 4 + i + 5 < buffer_width p → t / 4 + j + 5 < buffer_height p → quarter_at p (s % 4) (t % 4) (s / 4) (t / 4) i j ≡ luma_at p x y v i j
 unfolding quarter_at inter_luma
 luma_is p v x y i j s t filled pad es et ps pt =
     let f : ℤ → ℤ → ℕ = sample_at p.width p.height (samples_of p) in
@@ -79,7 +79,7 @@ luma_is p v x y i j s t filled pad es et ps pt =
     column c a x i k pad w e b d = omega (arith, ints)
 
 pub chroma_is : (p : Plane) (v : Vector) (x y i j s t : ℕ) → IsFilled p → p.pad ≡ 20 → pos s ≡ pos (8 * (x + 20)) +ℤ v.x → pos t ≡ pos (8 * (y + 20)) +ℤ v.y
-    → s / 8 + i + 1 < buffer_width p → t / 8 + j + 1 < buffer_height p → eighth_in p (s % 8) (t % 8) (s / 8) (t / 8) i j ≡ chroma_from p x y v i j
+    → s / 8 + i + 1 < buffer_width p → t / 8 + j + 1 < buffer_height p → eighth_in p (s % 8) (t % 8) (s / 8) (t / 8) i j ≡ chroma_at p x y v i j
 unfolding eighth_in inter_chroma
 chroma_is p v x y i j s t filled pad es et ps pt =
     let f : ℤ → ℤ → ℕ = sample_at p.width p.height (samples_of p) in

@@ -11,7 +11,7 @@ use Rattle.spec_inter.specs.Taps.{mean}
 use Rattle.spec_inter.specs.Luma.{firsts, seconds, quarter_of, along}
 use Rattle.subpel_filter.specs.Rows.{middle, half_at, half_down, RawOf}
 use Rattle.spec_inter.specs.Blocks.{RowsHold}
-use Rattle.subpel_filter.proofs.Halves.{half_twice_up}
+use Rattle.subpel_filter.proofs.Clips.{half_twice_up}
 use Rattle.spec_inter.specs.declared.Position.TheVariants.{Middle}
 use Rattle.subpel_filter.specs.Near.{near_at, quarter_at, eighth_in, position_at, across_at, whole_at, down_at, RawAt}
 

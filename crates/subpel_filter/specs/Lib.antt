@@ -1,3 +1,4 @@
 pub mod Rows
 pub mod Near
 pub mod Predicted
+pub mod Halves

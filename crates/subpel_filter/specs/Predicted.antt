@@ -7,11 +7,11 @@ use Rattle.spec_inter.specs.Luma.{inter_luma}
 use Rattle.spec_inter.specs.Chroma.{inter_chroma}
 
 -- the sample that is predicted by a vector at column i and row j of a block at column x and row y
-abbrev pub luma_from : Plane → ℕ → ℕ → Vector → ℕ → ℕ → ℕ
-luma_from p x y v i j = inter_luma p.width p.height (samples_of p) (pos (x + i)) (pos (y + j)) v
+abbrev pub luma_at : Plane → ℕ → ℕ → Vector → ℕ → ℕ → ℕ
+luma_at p x y v i j = inter_luma p.width p.height (samples_of p) (pos (x + i)) (pos (y + j)) v
 
-abbrev pub chroma_from : Plane → ℕ → ℕ → Vector → ℕ → ℕ → ℕ
-chroma_from p x y v i j = inter_chroma p.width p.height (samples_of p) (pos (x + i)) (pos (y + j)) v
+abbrev pub chroma_at : Plane → ℕ → ℕ → Vector → ℕ → ℕ → ℕ
+chroma_at p x y v i j = inter_chroma p.width p.height (samples_of p) (pos (x + i)) (pos (y + j)) v
 
 -- both parts of a vector are at most 131 in size
 pub record IsShort (v : Vector) : Type 0 where

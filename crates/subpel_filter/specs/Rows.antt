@@ -32,3 +32,16 @@ middle_down a b c d e f i = middle (slice_index a i) (slice_index b i) (slice_in
 -- each of the first n is at most 13260
 abbrev pub AreRaw : List ℕ → ℕ → Type 0
 AreRaw xs n = (i : ℕ) → i < n → slice_index xs i ≤ 13260
+
+-- v is the taps over place i of six rows, with 2550 added
+pub record RawDown (a b c d e f : List ℕ) (i v : ℕ) : Type 0 where
+  pub same : pos v ≡ tap (pos (slice_index a i)) (pos (slice_index b i)) (pos (slice_index c i)) (pos (slice_index d i)) (pos (slice_index e i)) (pos (slice_index f i)) +ℤ pos 2550
+  pub most : v ≤ 13260
+
+-- the half sample of six taps of a row that aren't rounded, from place i on
+unfoldable pub middle_across : List ℕ → ℕ → ℕ
+middle_across xs i = middle (slice_index xs i) (slice_index xs (i + 1)) (slice_index xs (i + 2)) (slice_index xs (i + 3)) (slice_index xs (i + 4)) (slice_index xs (i + 5))
+
+-- in a row of n with two places more before it and more after it: the place of the row that is nearest to place i
+abbrev pub ended : ℕ → ℕ → ℕ
+ended n i = min (i - 2) (n - 1)

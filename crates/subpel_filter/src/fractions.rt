@@ -49,14 +49,16 @@ const SECONDS: [Position; 16] = [
     Position::DownRight,
 ];
 
-fn first_of(x: usize, y: usize) -> Position
+// The first of the two samples whose mean stands at quarter fractions x and y.
+pub fn first_of(x: usize, y: usize) -> Position
     requires { (x < 4) × (y < 4) }
     ensures { result ≡ Luma.first_of x y }
 {
     FIRSTS[4 * y + x]
 }
 
-fn second_of(x: usize, y: usize) -> Position
+// The second of them.
+pub fn second_of(x: usize, y: usize) -> Position
     requires { (x < 4) × (y < 4) }
     ensures { result ≡ Luma.second_of x y }
 {

@@ -4,7 +4,10 @@
 mod blocks;
 mod chroma;
 mod fractions;
+mod halves;
+mod kept;
 mod predict;
 mod rows;
 
-pub use predict::{chroma_block, luma_block};
+pub use halves::{HalfPlanes, fill_halves};
+pub use predict::{chroma_block, luma_block, luma_from};

@@ -1,6 +1,7 @@
 use Rattle.std.proofs.Common.{◌∙◌, arith}
+use Rattle.motion_search.specs.Quarters.{samples_by}
 use Rattle.motion_search.proofs.Costs.{eight_or, sides}
-use Rattle.motion_search.proofs.Quartering.{quarter_cost_is}
+use Rattle.motion_search.proofs.Quartering.{block_cost_is, cost_by_is}
 use Rattle.motion_search.proofs.quarters.quarter_difference.Goals as goal
 
 pub sad_block16-requires-clause-room_a : goal.sad_block16-requires-clause-room_a
@@ -22,9 +23,11 @@ sad_block8-requires-clause-room_a c =
 pub returns-then-block-eq16 : goal.returns-then-block-eq16
 returns-then-block-eq16 c =
     c.sad_block16.ensures
-    ∙ quarter_cost_is c.args.source.now c.args.reference.now c.args.block c.args.v 16 c.rows_from-own.result.now _ c.requires.planes.inside c.if-block-eq16.true c.rows_from-own.ensures.value c.luma_block.ensures
+    ∙ block_cost_is c.args.source.now c.args.block (samples_by c.args.reference.now c.args.halves c.args.block c.args.v) 16 c.rows_from-own.result.now _ c.requires.planes.inside c.if-block-eq16.true c.rows_from-own.ensures.value c.predicted_by-predicted.ensures
+    ∙ cost_by_is c.args.source.now c.args.reference.now c.args.halves c.args.block c.args.v
 
 pub returns-else-block-eq16 : goal.returns-else-block-eq16
 returns-else-block-eq16 c =
     c.sad_block8.ensures
-    ∙ quarter_cost_is c.args.source.now c.args.reference.now c.args.block c.args.v 8 c.rows_from-own.result.now _ c.requires.planes.inside (eight_or c.args.block.w c.requires.planes.inside.wide c.if-block-eq16.false) c.rows_from-own.ensures.value c.luma_block.ensures
+    ∙ block_cost_is c.args.source.now c.args.block (samples_by c.args.reference.now c.args.halves c.args.block c.args.v) 8 c.rows_from-own.result.now _ c.requires.planes.inside (eight_or c.args.block.w c.requires.planes.inside.wide c.if-block-eq16.false) c.rows_from-own.ensures.value c.predicted_by-predicted.ensures
+    ∙ cost_by_is c.args.source.now c.args.reference.now c.args.halves c.args.block c.args.v

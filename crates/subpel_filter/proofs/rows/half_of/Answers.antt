@@ -1,5 +1,5 @@
 use Rattle.std.proofs.Common.{◌∙◌, ◌/◌, ℕ, ap, min, sym}
-use Rattle.subpel_filter.proofs.Halves.{half_up_down}
+use Rattle.subpel_filter.proofs.Clips.{half_up_down}
 use Rattle.subpel_filter.proofs.rows.half_of.Goals as goal
 
 pub returns : goal.returns

@@ -1,4 +1,4 @@
-use Rattle.subpel_filter.proofs.Halves.{raw_up_down}
+use Rattle.subpel_filter.proofs.Clips.{raw_up_down}
 use Rattle.subpel_filter.proofs.rows.raw_of.Goals as goal
 
 pub returns-clause-value : goal.returns-clause-value

@@ -1,5 +1,5 @@
-use Rattle.std.proofs.Common.{◌≡◌, ℕ, ◌+◌, ◌-◌, ◌*◌, ◌<◌, ◌≤◌, length, arith}
-use Rattle.picture_planes.specs.Margins.{buffer_at, buffer_width, buffer_height}
+use Rattle.std.proofs.Common.{◌+◌, ◌*◌, arith}
+use Rattle.picture_planes.specs.Margins.{buffer_at}
 use Rattle.picture_planes.proofs.Blocks.{tail_is, block_at, rows_fit}
 use Rattle.picture_planes.proofs.plane.Plane.rows_from.Goals as goal
 

@@ -2,9 +2,9 @@ use Rattle.std.proofs.Common.{arith, sym, subst}
 use Rattle.std.specs.Prelude.{pos, ◌*ℤ◌}
 use Rattle.std.proofs.lemmas.Int.{ints}
 use Rattle.enc_tables.specs.declared.records.Vector.{Vector}
-use Rattle.motion_search.specs.Quarters.{quarter_costs, IsWithin}
+use Rattle.motion_search.specs.Quarters.{costs_by, IsWithin}
 use Rattle.motion_search.proofs.Quartering.{turned_within, abs_bounds, centre_same}
-use Rattle.motion_search.proofs.quarters.refine.Goals as goal
+use Rattle.motion_search.proofs.quarters.refined.Goals as goal
 
 pub best_of_nine-requires-clause-centre : goal.best_of_nine-requires-clause-centre
 best_of_nine-requires-clause-centre c =
@@ -29,7 +29,7 @@ returns c =
     let b = abs_bounds c.args.best.now.dy 32 c.requires.best.down in
     record {
       half = c.best_of_nine.result.0;
-      coarse = centre_same (quarter_costs c.args.source.now c.args.reference.now c.args.block) _ (pos 4 *ℤ c.args.best.now.dx) _ (pos 4 *ℤ c.args.best.now.dy) 2 c.best_of_nine.result.0 (omega (arith, ints)) (omega (arith, ints)) c.best_of_nine.ensures.best;
+      coarse = centre_same (costs_by c.args.source.now c.args.reference.now c.args.halves c.args.block) _ (pos 4 *ℤ c.args.best.now.dx) _ (pos 4 *ℤ c.args.best.now.dy) 2 c.best_of_nine.result.0 (omega (arith, ints)) (omega (arith, ints)) c.best_of_nine.ensures.best;
       fine = c.best_of_nine-2.ensures.best;
       is_cost = c.best_of_nine-2.ensures.cost;
     }

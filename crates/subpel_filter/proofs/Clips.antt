@@ -2,7 +2,7 @@
 use Rattle.std.proofs.Common.{◌≡◌, ℕ, ◌+◌, ◌-◌, ◌*◌, ◌/◌, ◌<◌, min, refl, ap, arith, ℤ, pos, negsuc, ◌+ℤ◌, ◌-ℤ◌}
 use Rattle.std.proofs.lemmas.Int.{ints}
 use Rattle.std.specs.Int.{int_shr}
-use Rattle.enc_tables.specs.Samples.{clip1}
+use Rattle.spec_basics.specs.Clip.{clip1}
 use Rattle.spec_inter.specs.Taps.{tap, half, half_twice}
 use Rattle.subpel_filter.specs.Rows.{middle}
 

@@ -3,7 +3,7 @@ use Rattle.std.proofs.Common.{◌≡◌, ◌≤◌, ◌+◌, ◌-◌, ℕ, List,
 use Rattle.std.proofs.lemmas.Grind.{common_steps}
 use Rattle.std.proofs.lemmas.List.{take-append-drop, take-append-le, drop-append-le, drop-drop}
 use Rattle.std.proofs.Math.Seq.{drop-append-add, take-append-add, take-append_seam, drop-append_seam}
-use Rattle.picture_planes.specs.Over.{over}
+use Rattle.spec_film.specs.Over.{over}
 
 pub over_length : (xs w : List ℕ) (i : ℕ) → i + length w ≤ length xs → length (over xs i w) ≡ length xs
 over_length xs w i h = grind (arith, common_steps)
