@@ -1,0 +1,4 @@
+pub mod Held
+pub mod Entries
+pub mod Named
+pub mod Stored
