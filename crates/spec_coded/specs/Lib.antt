@@ -1,0 +1,4 @@
+pub mod Planned
+pub mod Levels
+pub mod Tasks
+pub mod Coarsest

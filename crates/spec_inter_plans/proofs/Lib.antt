@@ -1,0 +1,5 @@
+pub mod Firsts
+pub mod Windows
+pub mod Rounds
+pub mod Near
+pub mod Adding

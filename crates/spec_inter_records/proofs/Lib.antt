@@ -1,0 +1,13 @@
+pub mod Made
+pub mod Fits
+pub mod Skips
+pub mod Differences
+pub mod Partitioned
+pub mod WholeLevels
+pub mod Encoded
+pub mod Carried
+pub mod Choices
+pub mod Predictions
+pub mod Picked
+pub mod Coarsest
+pub mod Along

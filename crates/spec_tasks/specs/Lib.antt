@@ -1,0 +1,3 @@
+pub mod Entries
+pub mod Choosing
+pub mod Given
