@@ -12,9 +12,9 @@ use Rattle.spec_film.specs.Films.{FilmEnd, Ended, Faulty, film_of}
 use Rattle.encode_cli.specs.declared.outcome.Outcome.{Outcome}
 use Rattle.encode_cli.specs.declared.outcome.Outcome.TheVariants.{Done, Words, Open, Read, Write, Input, Setting, Long, OutOfMemory}
 use Rattle.spec_words.specs.declared.Settings.{Settings}
-use Rattle.spec_words.specs.declared.WordFault.{WordFault}
-use Rattle.spec_words.specs.Words.{Word, Meaning, meaning_of}
-use Rattle.spec_words.specs.Words.Meaning.{Store, Encode, Refused}
+use Rattle.encode_cli.specs.declared.command.WordFault.{WordFault}
+use Rattle.encode_cli.specs.Words.{Word, Meaning, meaning_of}
+use Rattle.encode_cli.specs.Words.Meaning.{Store, Encode, Refused}
 use Rattle.encode_film.specs.declared.ends.EncodeEnd.{EncodeEnd}
 use Rattle.encode_film.specs.declared.ends.EncodeEnd.TheVariants as ends
 use Rattle.encode_film.specs.declared.ends.SettingFault.TheVariants.{Slices}
@@ -25,8 +25,11 @@ use Rattle.encode_film.specs.Runs.{NoFault, Encoded}
 use Rattle.encode_cli.specs.Leaving.{Leaves}
 use Rattle.encode_cli.specs.Encoding.{EncodeLeaves, EncodeAnswers}
 use Rattle.encode_cli.specs.Ran.{Ran, Decided, stored, encoded, refused}
-use Rattle.encode_cli.specs.Told.{outcome_of}
-use Rattle.encode_cli.specs.Runs.{reading, Stored, OpenFailed, ReadFault, in_head, in_pictures, WriteFault, NoFilm, no_head, cut_short}
+use Rattle.encode_cli.specs.Told.{outcome_of, stored_outcome}
+use Rattle.store_film.specs.declared.ends.StoreEnd.{StoreEnd}
+use Rattle.store_film.specs.declared.ends.StoreEnd.TheVariants as store_ends
+use Rattle.store_film.specs.Leaving.{Leaves as StoreLeaves}
+use Rattle.store_film.specs.Runs.{Stored, OpenFailed, ReadFault, in_head, in_pictures, WriteFault, NoFilm, no_head, cut_short}
 use Rattle.encode_cli.specs.Answering.{Answers, answer_of}
 
 open_rose : (place : Place) (input : List ℕ) (old new : Seen) → OpenFailed input old new place → Rose (spot_at place old).opening (spot_at place new).opening
@@ -87,6 +90,21 @@ encoded_ran words input stream recon settings old new r o means is left answers 
     encoded input stream recon settings means
     (subst (λ (x : Outcome). EncodeLeaves (named input stream recon) settings old new x) (sym is) (encode_left (named input stream recon) settings old new r left))
     (λ bytes told none. subst (λ (x : Outcome). EncodeAnswers (film_of bytes) settings x) (sym is) (encode_decided settings bytes r (answers bytes told none)))
+
+-- ---- the end of storing
+
+store_left : (input output : Word) (old new : Seen) (r : Result (Unit {0}) StoreEnd) → StoreLeaves input output old new r → Leaves input output old new (stored_outcome r)
+store_left input output old new (Ok done) l = l
+store_left input output old new (Err (store_ends.Open place)) l = l
+store_left input output old new (Err store_ends.Read) l = l
+store_left input output old new (Err store_ends.Write) l = (refl, l)
+store_left input output old new (Err (store_ends.Input fault)) l = l
+store_left input output old new (Err store_ends.OutOfMemory) l = l
+
+pub stored_ran : (words : List Word) (input output : Word) (old new : Seen) (r : Result (Unit {0}) StoreEnd) (o : Outcome) → meaning_of words ≡ Store input output → o ≡ stored_outcome r → StoreLeaves input output old new r
+    → Ran words old new o
+stored_ran words input output old new r o means is left =
+    stored input output means (subst (λ (x : Outcome). Leaves input output old new x) (sym is) (store_left input output old new r left))
 
 -- ---- the clauses of a run
 

@@ -6,9 +6,10 @@ use Rattle.std.specs.Char.{is_ascii_digit}
 use Rattle.std.proofs.lemmas.Grind.{common_steps}
 use Rattle.std.proofs.lemmas.Bool.Decides.{nat_tests}
 use Rattle.spec_words.specs.declared.Settings.{Settings}
-use Rattle.spec_words.specs.declared.WordFault.TheVariants.{Form, UnknownCommand}
-use Rattle.spec_words.specs.Words.{Word, Meaning, meaning_of, store_of, encode_of, store_with, encode_with, settings_of, settings_from, number_in, number_of, within, switch_in, value_of, is_form, store_names, encode_names, same_word, decimal}
-use Rattle.spec_words.specs.Words.Meaning.{Store, Encode, Refused}
+use Rattle.encode_cli.specs.declared.command.WordFault.TheVariants.{Form, UnknownCommand}
+use Rattle.encode_cli.specs.Words.{Word, Meaning, meaning_of, store_of, encode_of, store_with, encode_with, settings_of, settings_from, number_in, within, switch_in, value_of, is_form, store_names, encode_names, same_word}
+use Rattle.spec_basics.specs.Decimals.{number_of, value_of_digits}
+use Rattle.encode_cli.specs.Words.Meaning.{Store, Encode, Refused}
 
 -- ---- numbers
 
@@ -32,7 +33,7 @@ then_is (Some n) least most m e = within_is least most n m e
 number_fits : (least most absent : ℕ) (word : Option Word) (n : ℕ) → least ≤ absent → absent ≤ most → number_in least most absent word ≡ Some n → (least ≤ n) × (n ≤ most)
 unfolding number_in
 number_fits least most absent None n low high e = let same = some_same absent n e in (subst (λ k. least ≤ k) same low, subst (λ k. k ≤ most) same high)
-number_fits least most absent (Some word) n low high e = then_is (number_of word) least most n e
+number_fits least most absent (Some word) n low high e = then_is (number_of 10 word) least most n e
 
 -- ---- settings
 

@@ -1,4 +1,4 @@
 pub mod Deciding
+mod Examples
 pub mod Fitting
-pub mod Running
-pub mod Storing
+pub mod Last

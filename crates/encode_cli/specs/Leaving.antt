@@ -2,10 +2,10 @@
 use Rattle.std.specs.Prelude.{◌≡◌}
 use Rattle.enc_edge.specs.declared.studio.Out.TheVariants.{Stream}
 use Rattle.enc_edge.specs.Seen.{Seen}
-use Rattle.spec_words.specs.Words.{Word}
+use Rattle.encode_cli.specs.Words.{Word}
 use Rattle.encode_cli.specs.declared.outcome.Outcome.{Outcome}
 use Rattle.encode_cli.specs.declared.outcome.Outcome.TheVariants.{Done, Words, Open, Read, Write, Input, Setting, Long, OutOfMemory}
-use Rattle.encode_cli.specs.Runs.{Stored, OpenFailed, ReadFault, WriteFault, NoFilm, HeadRead}
+use Rattle.store_film.specs.Runs.{Stored, OpenFailed, ReadFault, WriteFault, NoFilm, HeadRead}
 
 -- by the names of input and stream, and what the outside shows before and after
 abbrev pub Leaves : Word → Word → Seen → Seen → Outcome → Type 0

@@ -1,8 +1,8 @@
 pub mod Answering
+pub mod Commands
 pub mod Encoding
 pub mod Leaving
 pub mod Names
-pub mod Pictures
 pub mod Ran
-pub mod Runs
 pub mod Told
+pub mod Words

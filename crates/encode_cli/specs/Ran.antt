@@ -3,9 +3,9 @@ use Rattle.std.specs.Prelude.{ℕ, ◌≡◌, List, Some}
 use Rattle.enc_edge.specs.Seen.{Seen}
 use Rattle.spec_film.specs.Films.{film_of}
 use Rattle.spec_words.specs.declared.Settings.{Settings}
-use Rattle.spec_words.specs.declared.WordFault.{WordFault}
-use Rattle.spec_words.specs.Words.{Word, meaning_of}
-use Rattle.spec_words.specs.Words.Meaning.{Store, Encode, Refused}
+use Rattle.encode_cli.specs.declared.command.WordFault.{WordFault}
+use Rattle.encode_cli.specs.Words.{Word, meaning_of}
+use Rattle.encode_cli.specs.Words.Meaning.{Store, Encode, Refused}
 use Rattle.encode_film.specs.Outputs.{named}
 use Rattle.encode_film.specs.Runs.{NoFault}
 use Rattle.encode_cli.specs.declared.outcome.Outcome.{Outcome}

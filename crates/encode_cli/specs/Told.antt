@@ -1,7 +1,10 @@
--- What the end of an encoding is to the program; the exit status and the printed line of each answer.
+-- What the end of an encoding, or of storing, is to the program; the exit status and the printed line of each answer.
 use Rattle.std.specs.Prelude.{ℕ, List, [], ◌++◌, codes, decimal, Result, Ok, Err}
 use Rattle.encode_film.specs.declared.ends.EncodeEnd.{EncodeEnd}
 use Rattle.encode_film.specs.declared.ends.EncodeEnd.TheVariants as ends
+use Rattle.enc_edge.specs.declared.studio.Out.TheVariants.{Stream}
+use Rattle.store_film.specs.declared.ends.StoreEnd.{StoreEnd}
+use Rattle.store_film.specs.declared.ends.StoreEnd.TheVariants as store_ends
 use Rattle.encode_cli.specs.Names.{out_name, place_name}
 use Rattle.encode_cli.specs.declared.outcome.Outcome.{Outcome}
 use Rattle.encode_cli.specs.declared.outcome.Outcome.TheVariants.{Done, Words, Open, Read, Write, Input, Setting, Long, OutOfMemory}
@@ -15,6 +18,14 @@ outcome_of (Err (ends.Input fault)) = Input fault
 outcome_of (Err (ends.Setting fault)) = Setting fault
 outcome_of (Err (ends.Long picture)) = Long picture
 outcome_of (Err ends.OutOfMemory) = OutOfMemory
+
+abbrev pub stored_outcome : Result (Unit {0}) StoreEnd → Outcome
+stored_outcome (Ok done) = Done
+stored_outcome (Err (store_ends.Open place)) = Open place
+stored_outcome (Err store_ends.Read) = Read
+stored_outcome (Err store_ends.Write) = Write Stream
+stored_outcome (Err (store_ends.Input fault)) = Input fault
+stored_outcome (Err store_ends.OutOfMemory) = OutOfMemory
 
 abbrev pub status_of : Outcome → ℕ
 status_of Done = 0

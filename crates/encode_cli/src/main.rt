@@ -1,13 +1,18 @@
-//! The encoder's program: `run` does what the words of a command line ask, and `main` gives it the system's words and files.
+//! The encoder's program: `run` does what the words of a command line ask, and `main` gives it the system's words and
+//! files.
 #![tactic(auto)]
 
+mod command;
 #[cfg(test)]
 mod encode_tests;
+mod numbers;
 mod outcome;
+mod pairs;
 mod run;
-mod store;
 #[cfg(test)]
 mod tests;
+#[cfg(test)]
+mod words_tests;
 
 use enc_edge::{OpenGate, RealStudio};
 use outcome::{Outcome, fault_line, status};
@@ -60,15 +65,18 @@ fn main(rt: HostRuntime) -> ExitCode {
         Ok(outcome) => {
             let line = fault_line(&outcome);
             if !line.is_empty() {
+                // Where the line can't be printed, the status still tells.
                 let _ = rt.eprintln(line.as_str());
             }
             ExitCode::from(status(&outcome))
         }
         Err(Unread::OutOfMemory) => {
+            // Where the line can't be printed, the status still tells.
             let _ = rt.eprintln("out of memory");
             ExitCode::from(9)
         }
         Err(Unread::Words) => {
+            // Where the line can't be printed, the status still tells.
             let _ = rt.eprintln("words unread");
             ExitCode::from(11)
         }

@@ -1,13 +1,14 @@
 // How a run ends, and what the program tells of it.
 ghost use Rattle.std.specs.Prelude.{◌≡◌, ◌≤◌, length};
-ghost use Rattle.encode_cli.specs.Told.{line_of, outcome_of, status_of, word_line};
+ghost use Rattle.encode_cli.specs.Told.{line_of, outcome_of, status_of, stored_outcome, word_line};
 
+use crate::command::WordFault;
 use arrayvec::ArrayString;
 use enc_edge::{Out, Place};
 use encode_film::{EncodeEnd, SettingFault};
-use encode_words::WordFault;
 use itoa::Buffer;
 use spec_film::InputFault;
+use store_film::StoreEnd;
 
 /// How a run ends.
 #[derive(Clone, Copy, Debug, PartialEq, Eq)]
@@ -16,7 +17,8 @@ pub enum Outcome {
     Done,
     /// The words are no command.
     Words(WordFault),
-    /// A file couldn't be opened. Nothing was written then; where it is the input, nothing was read, and else the film's head and no more.
+    /// A file couldn't be opened. Nothing was written then; where it is the input, nothing was read, and else the
+    /// film's head and no more.
     Open(Place),
     /// Reading the input failed.
     Read,
@@ -48,6 +50,20 @@ pub fn outcome_of(ended: Result<(), EncodeEnd>) -> Outcome
         Err(EncodeEnd::Setting(fault)) => Outcome::Setting(fault),
         Err(EncodeEnd::Long { picture }) => Outcome::Long { picture },
         Err(EncodeEnd::OutOfMemory) => Outcome::OutOfMemory,
+    }
+}
+
+/// What the end of storing is to the program.
+pub fn stored_outcome(ended: Result<(), StoreEnd>) -> Outcome
+    ensures { result ≡ stored_outcome ended }
+{
+    match ended {
+        Ok(()) => Outcome::Done,
+        Err(StoreEnd::Open(place)) => Outcome::Open(place),
+        Err(StoreEnd::Read) => Outcome::Read,
+        Err(StoreEnd::Write) => Outcome::Write(Out::Stream),
+        Err(StoreEnd::Input(fault)) => Outcome::Input(fault),
+        Err(StoreEnd::OutOfMemory) => Outcome::OutOfMemory,
     }
 }
 

@@ -3,22 +3,22 @@ ghost use Rattle.std.specs.Prelude.{◌≡◌, List, ℕ, Some, map};
 ghost use Rattle.enc_edge.specs.Seen.{Seen};
 ghost use Rattle.spec_film.specs.Films.{film_of};
 ghost use Rattle.spec_words.specs.declared.Settings.{Settings as Chosen};
-ghost use Rattle.spec_words.specs.declared.WordFault.{WordFault};
-ghost use Rattle.spec_words.specs.Words.{Word, meaning_of};
-ghost use Rattle.spec_words.specs.Words.Meaning.{Encode, Refused, Store};
+ghost use Rattle.encode_cli.specs.declared.command.WordFault.{WordFault};
+ghost use Rattle.encode_cli.specs.Words.{Word, meaning_of};
+ghost use Rattle.encode_cli.specs.Words.Meaning.{Encode, Refused, Store};
 ghost use Rattle.encode_film.specs.Outputs.{named};
 ghost use Rattle.encode_film.specs.Runs.{Encoded, NoFault};
 ghost use Rattle.encode_cli.specs.Answering.{Answers};
 ghost use Rattle.encode_cli.specs.Encoding.{EncodeAnswers, EncodeLeaves};
 ghost use Rattle.encode_cli.specs.Leaving.{Leaves};
 ghost use Rattle.encode_cli.specs.Ran.{Ran};
-ghost use Rattle.encode_cli.specs.Runs.{Stored};
+ghost use Rattle.store_film.specs.Runs.{Stored};
 
-use crate::outcome::{Outcome, outcome_of};
-use crate::store::store;
+use crate::command::{Command, settings};
+use crate::outcome::{Outcome, outcome_of, stored_outcome};
 use enc_edge::{Gate, Studio};
 use encode_film::encode;
-use encode_words::{Command, settings};
+use store_film::store;
 
 // Does what the words ask.
 fn answer<R: AllocGlobal, S: Studio, G: Gate + Sync>(
@@ -30,7 +30,9 @@ fn answer<R: AllocGlobal, S: Studio, G: Gate + Sync>(
     ensures { Ran (map (λ w. w.now) words.now) (S.seen studio.old) (S.seen studio.new) result }
 {
     match settings(words) {
-        Ok(Command::Store { input, output }) => store(rt.alloc(), input, output, studio),
+        Ok(Command::Store { input, output }) => {
+            stored_outcome(store(rt.alloc(), input, output, studio))
+        }
         Ok(
             Command::Encode {
                 input,
@@ -46,8 +48,8 @@ fn answer<R: AllocGlobal, S: Studio, G: Gate + Sync>(
 /// Does what the words ask, over a studio: `store --in <film> --out <stream>`, or
 /// `encode --in <film> --out <stream> --recon <film>` with `--qp`, `--slices` and `--t8x8` where they are wanted.
 ///
-/// The words are those of the command line without the program's own name. The gate is asked before each row of macroblocks is planned;
-/// `store` plans none.
+/// The words are those of the command line without the program's own name. The gate is asked before each row of
+/// macroblocks is planned; `store` plans none.
 pub fn run<R: AllocGlobal, S: Studio, G: Gate + Sync>(
     rt: &R,
     words: &[&str],
@@ -58,8 +60,8 @@ pub fn run<R: AllocGlobal, S: Studio, G: Gate + Sync>(
     ensures words { (fault : WordFault) → result ≡ Outcome.Words fault → (meaning_of (map (λ w. w.now) words.now) ≡ Refused fault) × (S.seen studio.new ≡ S.seen studio.old) }
     ensures refused { (fault : WordFault) → meaning_of (map (λ w. w.now) words.now) ≡ Refused fault → result ≡ Outcome.Words fault }
 
-    // A film that was encoded: every decoder shows of the stream exactly the written reconstruction, one picture for each picture of the film, and
-    // what it reads is what the written choice fixes.
+    // A film that was encoded: every decoder shows of the stream exactly the written reconstruction, one picture for
+    // each picture of the film, and what it reads is what the written choice fixes.
     ensures encoded { (input : Word) → (stream : Word) → (recon : Word) → (settings : Chosen) → meaning_of (map (λ w. w.now) words.now) ≡ Encode input stream recon settings → result ≡ Outcome.Done → Encoded (named input stream recon) settings (S.seen studio.old) (S.seen studio.new) }
 
     // A film that was stored: every decoder shows of the stream exactly the film.

@@ -1,8 +1,8 @@
 // Runs over a studio in memory and over files.
+use crate::command::WordFault;
 use crate::outcome::Outcome;
 use crate::run::run;
 use enc_edge::{MemStudio, OpenGate, Out, Place, RealStudio};
-use encode_words::WordFault;
 use spec_film::InputFault;
 use std::alloc::{AllocError, Global};
 use std::fs;
@@ -10,7 +10,8 @@ use std::test::Fail;
 
 const WORDS: [&str; 5] = ["store", "--in", "film", "--out", "stream"];
 
-// What stores one grey picture of 16 by 16 samples: parameter sets and the beginning of the slice; samples and the slice's end are bytes 80.
+// What stores one grey picture of 16 by 16 samples: parameter sets and the beginning of the slice; samples and the
+// slice's end are bytes 80.
 const BEGIN: [u8; 32] = [
     0x00, 0x00, 0x00, 0x01, 0x67, 0x64, 0x00, 0x33, 0xAC, 0x1B, 0x1A, 0x9E, 0x40, 0x00, 0x00, 0x00,
     0x01, 0x68, 0xCE, 0x38, 0x30, 0x00, 0x00, 0x01, 0x65, 0x88, 0x80, 0x00, 0x40, 0x00, 0x08, 0x68,
@@ -105,8 +106,9 @@ fn a_film_without_pictures(rt: HostRuntime) -> Result<(), Fail> {
     Ok(())
 }
 
-// The calls of a run that stores one grey picture: the input is opened, the head's 18 bytes are read one by one, the stream is opened,
-// the picture's line and its three planes are read, its access unit is written, the end is read, the stream is closed.
+// The calls of a run that stores one grey picture: the input is opened, the head's 18 bytes are read one by one, the
+// stream is opened, the picture's line and its three planes are read, its access unit is written, the end is read,
+// the stream is closed.
 fn failing_at(call: u64) -> Outcome {
     match call {
         0 => Outcome::Open(Place::Input),

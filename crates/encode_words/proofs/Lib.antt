@@ -1,2 +1,2 @@
-mod Decimals
-mod Last
+pub mod Numbers
+pub mod Parsing

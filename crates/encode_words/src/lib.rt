@@ -1,11 +1,14 @@
-//! Reads the words of a command line.
+//! Reads the words of a command line by `clap`.
 #![tactic(auto)]
 
-ghost use Rattle.std.specs.Prelude.{◌≡◌, map};
+mod choices;
+mod options;
+mod reading;
+mod values;
 
-mod command;
-mod numbers;
-mod pairs;
-
-pub use command::{Command, settings};
-pub use spec_words::{Settings, WordFault};
+pub use choices::early;
+pub use reading::settings;
+pub use spec_words::command::{
+    Command, Made, Outputs, SettingFault, Settings, WordFault, WordsEnd,
+};
+pub use spec_words::name::Name;

@@ -1,1 +1,3 @@
-pub mod Words
+pub mod Choices
+pub mod Commands
+pub mod Options

@@ -1,18 +1,11 @@
 //! The words of a command line: what they mean, as definitions, and the types that these speak of.
 #![tactic(auto)]
 
-/// Why the words are refused.
-#[derive(Clone, Copy, Debug, PartialEq, Eq)]
-pub enum WordFault {
-    /// There is no word.
-    NoCommand,
-    /// The first word names no command.
-    UnknownCommand,
-    /// What follows the first word isn't what its command asks for.
-    Form,
-}
+pub mod command;
+pub mod name;
 
-/// How a film is to be encoded.
+/// How a film is to be encoded, as far as the program asks today; the settings of its commands are those of
+/// [`command::Settings`].
 #[derive(Clone, Copy, Debug, PartialEq, Eq)]
 pub struct Settings {
     /// The luma quantisation parameter: 0 to 51.

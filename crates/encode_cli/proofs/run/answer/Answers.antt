@@ -1,7 +1,7 @@
 use Rattle.std.proofs.Common.{map, refl, ap, ◌∙◌}
-use Rattle.encode_words.specs.Told.{told}
-use Rattle.encode_cli.specs.Ran.{stored, encoded, refused}
-use Rattle.encode_cli.proofs.Deciding.{encoded_ran}
+use Rattle.encode_cli.specs.Commands.{told}
+use Rattle.encode_cli.specs.Ran.{refused}
+use Rattle.encode_cli.proofs.Deciding.{stored_ran, encoded_ran}
 use Rattle.encode_cli.proofs.Fitting.{settings_fit}
 use Rattle.encode_cli.proofs.run.answer.Goals as goal
 
@@ -14,7 +14,10 @@ encode-requires-clause-slices g c κs within =
     (settings_fit (map (λ w. w.now) c.args.words.now) c.in-Ok-Encode.input.now c.in-Ok-Encode.stream.now c.in-Ok-Encode.recon.now c.in-Ok-Encode.settings (c.in-Ok-Encode.ensures ∙ ap told c.in-Ok-Encode.field-0-is)).1
 
 pub returns-in-Ok-Store : goal.returns-in-Ok-Store
-returns-in-Ok-Store g c = stored c.in-Ok-Store.input.now c.in-Ok-Store.output.now (c.in-Ok-Store.ensures ∙ ap told c.in-Ok-Store.field-0-is) c.store.ensures
+returns-in-Ok-Store g c =
+    let seen = g.S.Studio.seen in
+    stored_ran (map (λ w. w.now) c.args.words.now) c.in-Ok-Store.input.now c.in-Ok-Store.output.now (seen c.args.studio.now) (seen c.store.new.studio)
+    c.store.result c.stored_outcome.result (c.in-Ok-Store.ensures ∙ ap told c.in-Ok-Store.field-0-is) c.stored_outcome.ensures c.store.ensures
 
 pub returns-in-Ok-Encode : goal.returns-in-Ok-Encode
 returns-in-Ok-Encode g c =

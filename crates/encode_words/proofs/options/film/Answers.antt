@@ -1,0 +1,11 @@
+use Rattle.std.proofs.Common.{ap, ap₂, ◌∙◌, ◌≡◌}
+use Rattle.std.proofs.lemmas.Result.{IfOk-weaker}
+use Rattle.clap.specs.Words.{app_of, with_rule}
+use Rattle.encode_words.proofs.options.film.Goals as goal
+
+pub returns : goal.returns
+returns c =
+    let s1 = c.in_ok-arg.ensures.shape c.number.ensures.local ∙ ap (with_rule (app_of c.args.command)) c.number.ensures.rule in
+    let s2 = c.in_ok-arg-2.ensures.shape c.number-2.ensures.local ∙ ap₂ with_rule s1 c.number-2.ensures.rule in
+    let s3 = c.in_ok-arg-3.ensures.shape c.number-3.ensures.local ∙ ap₂ with_rule s2 c.number-3.ensures.rule in
+    IfOk-weaker c.arg-4.result _ _ (λ made h. h.shape c.number-4.ensures.local ∙ ap₂ with_rule s3 c.number-4.ensures.rule) c.arg-4.ensures
