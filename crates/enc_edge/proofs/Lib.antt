@@ -1,3 +1,4 @@
+pub mod Behind
 pub mod Named
 pub mod Outputs
 pub mod Spots

@@ -1,5 +1,5 @@
 -- A studio that tells its counts of faults alone.
-use Rattle.std.specs.Prelude.{ℕ, ◌+◌, ◌*◌, List, None, slice_index}
+use Rattle.std.specs.Prelude.{ℕ, ◌+◌, ◌*◌, List, [], None, slice_index}
 use Rattle.enc_edge.specs.declared.studio.Out.TheVariants.{Stream, Recon, Report}
 use Rattle.enc_edge.specs.declared.studio.Place.{Place}
 use Rattle.enc_edge.specs.declared.studio.Place.TheVariants.{Input, Output}
@@ -22,5 +22,5 @@ counts_seen counters = record {
   stream = untold (Output Stream) counters;
   recon = untold (Output Recon) counters;
   report = untold (Output Report) counters;
-  aside = None;
+  aside = [];
 }

@@ -1,5 +1,7 @@
 pub mod Calls
 pub mod Counts
+pub mod Filmed
+pub mod Films
 pub mod Memory
 pub mod Places
 pub mod Reads

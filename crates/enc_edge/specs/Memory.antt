@@ -1,5 +1,5 @@
 -- What a studio in memory shows, when its calls fail, and how much they move.
-use Rattle.std.specs.Prelude.{ℕ, ◌+◌, ◌-◌, ◌*◌, ◌^◌, min, ◌≡◌, ◌==◌, ◌||◌, Bool, nat_lt, nat_le, List, [], drop, length, Some, None, slice_get, slice_index, unwrap_or}
+use Rattle.std.specs.Prelude.{ℕ, ◌+◌, ◌-◌, ◌*◌, ◌^◌, min, ◌≡◌, ◌==◌, ◌||◌, Bool, nat_lt, nat_le, List, [], drop, length, Some, slice_get, slice_index, unwrap_or}
 use Rattle.std.specs.List.{list_any}
 use Rattle.std.specs.Option.{option_map}
 use Rattle.enc_edge.specs.declared.studio.Out.{Out}
@@ -35,7 +35,7 @@ memory_seen m = record {
   stream = spot_of (Output Stream) (written Stream m) m;
   recon = spot_of (Output Recon) (written Recon m) m;
   report = spot_of (Output Report) (written Report m) m;
-  aside = None;
+  aside = [];
 }
 
 -- the number of the call that comes next is among those that are to fail
@@ -63,7 +63,7 @@ untouched bytes = record { bytes = Some bytes; standing = Some Unopened; opening
 
 -- no call was made yet: the input as given, room for so many bytes, so many moved by each call, the calls chosen to fail
 pub record Starts (given : List ℕ) (most each : ℕ) (chosen : List ℕ) (m : MemStudio) : Type 0 where
-  pub shows : memory_seen m ≡ record { input = untouched given; stream = untouched []; recon = untouched []; report = untouched []; aside = None }
+  pub shows : memory_seen m ≡ record { input = untouched given; stream = untouched []; recon = untouched []; report = untouched []; aside = [] }
   pub calls : m.calls ≡ 0
   pub failing : m.failing.items ≡ chosen
   pub room : m.room ≡ most

@@ -1,5 +1,6 @@
 -- What a studio shows: bytes, standings and counts of faults.
 use Rattle.std.specs.Prelude.{ℕ, List, Option}
+use Rattle.std.specs.Borrow.{GName}
 use Rattle.enc_edge.specs.declared.studio.Out.TheVariants.{Stream, Recon, Report}
 use Rattle.enc_edge.specs.declared.studio.Place.{Place}
 use Rattle.enc_edge.specs.declared.studio.Place.TheVariants.{Input, Output}
@@ -18,13 +19,18 @@ pub record Spot : Type 0 where
   pub opening : ℕ
   pub later : ℕ
 
--- the four places; and aside, where one studio stands before another, the other's input
+-- a studio behind another one: its input, and the reference, by its name in proofs, that the other one keeps of it
+pub record Behind : Type 0 where
+  pub input : Spot
+  pub lender : GName
+
+-- the four places; and aside, where one studio stands before another, the other's input and what is aside there
 pub record Seen : Type 0 where
   pub input : Spot
   pub stream : Spot
   pub recon : Spot
   pub report : Spot
-  pub aside : Option Spot
+  pub aside : List Behind
 
 -- the spot of one place
 abbrev pub spot_at : Place → Seen → Spot

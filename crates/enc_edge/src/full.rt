@@ -2,7 +2,7 @@
 ghost use Rattle.std.specs.Prelude.{◌≡◌, ◌<◌, ◌≤◌, length, take, min, IfSome, IfOk, IfErr};
 ghost use Rattle.enc_edge.specs.Seen.{spot_at};
 ghost use Rattle.enc_edge.specs.Calls.{LaterFailed, wrote, took};
-ghost use Rattle.enc_edge.specs.Reads.{ReadFailed};
+ghost use Rattle.enc_edge.specs.Reads.{ReadFailed, ReadFailedWithin};
 
 use crate::{Failed, Out, Place, Studio};
 
@@ -25,8 +25,8 @@ pub fn write_full<S: Studio>(studio: &mut S, out: Out, bytes: &[u8]) -> Result<(
 }
 
 /// Reads until the buffer is full or the input ends, and says how many bytes were read: fewer than
-/// the buffer holds only where the input ended. `Failed`: after some bytes a read failed; the count
-/// of later faults of the input rose.
+/// the buffer holds only where the input ended. `Failed`: after some bytes, fewer than the buffer
+/// holds, a read failed; the count of later faults of the input rose.
 pub fn read_full<S: Studio>(studio: &mut S, buf: &mut [u8]) -> Result<usize, Failed>
     ensures count { IfOk result (λ n. n ≤ length buf.new) }
     ensures bytes { IfOk result (λ n. IfSome (spot_at Place.Input (S.seen studio.old)).bytes (λ left.
@@ -34,6 +34,7 @@ pub fn read_full<S: Studio>(studio: &mut S, buf: &mut [u8]) -> Result<usize, Fai
     ensures end { IfOk result (λ n. n < length buf.new → IfSome (spot_at Place.Input (S.seen studio.old)).bytes (λ left. n ≡ length left)) }
     ensures ok { IfOk result (λ n. S.seen studio.new ≡ took Place.Input n (S.seen studio.old)) }
     ensures err { IfErr result (λ _. ReadFailed (S.seen studio.old) (S.seen studio.new)) }
+    ensures within { IfErr result (λ _. ReadFailedWithin (length buf.new) (S.seen studio.old) (S.seen studio.new)) }
 {
     let mut done = 0;
     while done < buf.len() {

@@ -6,13 +6,13 @@ use Rattle.std.proofs.lemmas.Bool.Decides.{nat_tests}
 use Rattle.std.proofs.Math.Nat.{div-mul-le_self}
 use Rattle.enc_tables.specs.declared.records.PlanStep.{PlanStep}
 use Rattle.spec_film.specs.Films.{Planes}
-use Rattle.spec_bits.specs.declared.heads.SeqHead.{SeqHead}
+use Rattle.spec_headers.specs.declared.heads.SeqHead.{SeqHead}
 use Rattle.spec_lists.specs.References.{kept}
 use Rattle.spec_buffer.specs.Buffer.{BufferHolds, IsRate}
 use Rattle.spec_buffer.specs.Ledger.{fresh, Keeps, start_qp, available, filler_bytes, Spends, sizes_of}
 use Rattle.spec_buffer.proofs.Holds.{step, share_is_there, ledgers_keep_the_buffer}
 use Rattle.spec_buffer.proofs.Least.{start_fits}
-use Rattle.spec_pictures.specs.Decode.{Reading}
+use Rattle.spec_decoder.specs.Pictures.{Reading}
 use Rattle.spec_pictures.specs.Coded.{slices_in}
 use Rattle.spec_pictures.specs.Accesses.{IsAccess, AllCoded, AreOthers, slices_of_accesses, id_in}
 use Rattle.spec_coding.specs.Encoding.{State, Picked, Fits, Refused, access_of, coded, after, accesses_of, encoded}

@@ -4,12 +4,12 @@ use Rattle.std.specs.Prelude.{nat_eq, ◌%◌, ◌==◌, not, if◌then◌else�
 use Rattle.std.specs.List.{AllByRecursion, IsDistinct}
 use Rattle.enc_tables.specs.declared.records.PlanStep.{PlanStep}
 use Rattle.spec_film.specs.Films.{Planes}
-use Rattle.spec_bits.specs.declared.heads.SeqHead.{SeqHead}
-use Rattle.spec_bits.specs.Allowed.{IsSeqHead}
-use Rattle.spec_stream.specs.Decode.{placed, pictures_in}
+use Rattle.spec_headers.specs.declared.heads.SeqHead.{SeqHead}
+use Rattle.spec_headers.specs.Allowed.{IsSeqHead}
+use Rattle.spec_decoder.specs.Output.{placed, pictures_in}
 use Rattle.spec_lists.specs.References.{kept}
 use Rattle.spec_lists.specs.Heads.{idr_id_of, is_other}
-use Rattle.spec_pictures.specs.Decode.{Reading, shown_planes, decode_by, read_by}
+use Rattle.spec_decoder.specs.Pictures.{Reading, shown_planes, decode_by, read_by}
 use Rattle.std.proofs.lemmas.Bool.Decides.{nat_tests}
 use Rattle.spec_pictures.specs.Coded.{slices_in}
 use Rattle.spec_pictures.specs.Accesses.{IsAccess, AllCoded, picture_of, Follows, shown_from, slices_of_accesses, id_in, AreOthers, places_of}

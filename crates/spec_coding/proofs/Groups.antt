@@ -4,9 +4,9 @@ use Rattle.std.specs.Prelude.{nat_lt}
 use Rattle.std.proofs.lemmas.List.{length-map}
 use Rattle.enc_tables.specs.declared.records.PlanStep.{PlanStep}
 use Rattle.spec_film.specs.Films.{Planes}
-use Rattle.spec_bits.specs.declared.heads.SeqHead.{SeqHead}
-use Rattle.spec_stream.specs.Decode.{placed}
-use Rattle.spec_pictures.specs.Decode.{Reading}
+use Rattle.spec_headers.specs.declared.heads.SeqHead.{SeqHead}
+use Rattle.spec_decoder.specs.Output.{placed}
+use Rattle.spec_decoder.specs.Pictures.{Reading}
 use Rattle.spec_coding.specs.Encoding.{State, Refusal, Chosen, Fits, Refused, Choice, Coded, coded, after, Went, behind, encoded, shown_at, placed_all, in_order}
 use Rattle.spec_coding.specs.Laws.{go_on}
 use Rattle.spec_coding.proofs.Going.{encoded-fits, encoded-refused, refusal, going}

@@ -2,4 +2,5 @@ pub mod Going
 pub mod Passing
 pub mod Choosing
 pub mod Groups
-mod Rows
+mod Examples
+pub mod Reporting

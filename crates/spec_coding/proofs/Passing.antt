@@ -3,14 +3,14 @@ use Rattle.std.proofs.Common.{ℕ, ◌-◌, Bool, true, false, [], ◌∷◌, re
 use Rattle.std.specs.Prelude.{◌==◌, ◌≡◌, is_some, if◌then◌else◌}
 use Rattle.std.specs.List.{AllByRecursion}
 use Rattle.spec_bits.specs.Fields.{fields_bits}
-use Rattle.spec_bits.specs.Messages.{message_fields}
+use Rattle.spec_headers.specs.MessageFields.{message_fields}
 use Rattle.spec_bits.specs.Units.{filler_payload}
 use Rattle.spec_bits.proofs.Payloads.{push_ends_well}
-use Rattle.spec_reading.specs.Messages.{Delays, AreDelays, delays}
-use Rattle.spec_reading.proofs.MessageLaws.{reads_delays, filler_is_read}
+use Rattle.spec_headers.specs.MessageReaders.{Delays, AreDelays, delays}
+use Rattle.spec_headers.proofs.MessageLaws.{reads_delays, filler_is_read}
 use Rattle.spec_stream.proofs.DecodeLaws.{read_set-back}
 use Rattle.spec_stream.proofs.Ends.{ends_in_trail}
-use Rattle.spec_pictures.specs.Passed.{is_passed}
+use Rattle.spec_decoder.specs.Passed.{is_passed}
 use Rattle.spec_pictures.specs.Accesses.{IsPassedOver}
 use Rattle.spec_coding.specs.Trials.{supplement_unit, filler_units}
 

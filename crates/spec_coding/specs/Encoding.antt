@@ -2,12 +2,12 @@
 use Rattle.std.specs.Prelude.{ℕ, Bool, List, [], ◌∷◌, ◌++◌, map, Option, Some, None}
 use Rattle.enc_tables.specs.declared.records.PlanStep.{PlanStep}
 use Rattle.spec_film.specs.Films.{Planes}
-use Rattle.spec_bits.specs.declared.heads.SeqHead.{SeqHead}
+use Rattle.spec_headers.specs.declared.heads.SeqHead.{SeqHead}
 use Rattle.spec_bits.specs.Units.{Nal}
-use Rattle.spec_stream.specs.Decode.{placed, pictures_in}
+use Rattle.spec_decoder.specs.Output.{placed, pictures_in}
 use Rattle.spec_lists.specs.References.{Reference}
 use Rattle.spec_buffer.specs.Ledger.{Ledger}
-use Rattle.spec_pictures.specs.Decode.{Reading, shown_planes}
+use Rattle.spec_decoder.specs.Pictures.{Reading, shown_planes}
 use Rattle.spec_pictures.specs.Coded.{CodedSlice}
 use Rattle.spec_pictures.specs.Accesses.{Access, picture_of, held_after, accesses_bytes}
 

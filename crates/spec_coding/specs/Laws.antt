@@ -2,14 +2,14 @@
 use Rattle.std.specs.Prelude.{ℕ, ◌≡◌, ◌≤◌, ◌*◌, ◌%◌, List, [], ◌∷◌, map, Option, Some, None}
 use Rattle.enc_tables.specs.declared.records.PlanStep.{PlanStep}
 use Rattle.spec_film.specs.Films.{Planes}
-use Rattle.spec_bits.specs.declared.heads.SeqHead.{SeqHead}
-use Rattle.spec_bits.specs.declared.heads.SliceHead.{SliceHead}
+use Rattle.spec_headers.specs.declared.heads.SeqHead.{SeqHead}
+use Rattle.spec_headers.specs.declared.heads.SliceHead.{SliceHead}
 use Rattle.spec_lists.specs.References.{kept}
 use Rattle.spec_lists.specs.Heads.{idr_id_of}
 use Rattle.spec_buffer.specs.Buffer.{scale, share_of}
 use Rattle.spec_buffer.specs.Ledger.{available}
-use Rattle.spec_reading.specs.Messages.{AreDelays}
-use Rattle.spec_pictures.specs.Decode.{Reading}
+use Rattle.spec_headers.specs.MessageReaders.{AreDelays}
+use Rattle.spec_decoder.specs.Pictures.{Reading}
 use Rattle.spec_pictures.specs.Coded.{slices_in}
 use Rattle.spec_pictures.specs.Accesses.{Covers, id_in}
 use Rattle.spec_coding.specs.Encoding.{State, Picked, Fits, Refusal, Coded, Went, behind, after}

@@ -1,3 +1,4 @@
 pub mod Encoding
 pub mod Trials
 pub mod Laws
+pub mod Report

@@ -2,14 +2,15 @@
 use Rattle.std.specs.Prelude.{ℕ, zero, suc, ◌+◌, ◌-◌, ◌*◌, ◌/◌, ◌==◌, nat_le, Bool, true, false, List, [], ◌∷◌, ◌++◌, length, map, Option, Some, None, if◌then◌else◌}
 use Rattle.enc_tables.specs.declared.records.PlanStep.{PlanStep}
 use Rattle.spec_film.specs.Films.{Planes}
-use Rattle.spec_bits.specs.declared.heads.SeqHead.{SeqHead}
-use Rattle.spec_bits.specs.Heads.{payload_of}
-use Rattle.spec_bits.specs.Messages.{message_fields}
+use Rattle.spec_headers.specs.declared.heads.SeqHead.{SeqHead}
+use Rattle.spec_headers.specs.HeadFields.{payload_of}
+use Rattle.spec_headers.specs.MessageFields.{message_fields}
 use Rattle.spec_bits.specs.Units.{Nal, filler_payload}
 use Rattle.spec_lists.specs.References.{Reference, kept}
 use Rattle.spec_buffer.specs.Buffer.{Rate}
+use Rattle.spec_plan.specs.Delays.{removal_ticks, output_ticks}
 use Rattle.spec_buffer.specs.Ledger.{available, filler_bytes, spent, start_qp, initial_delay}
-use Rattle.spec_reading.specs.Messages.{Delays}
+use Rattle.spec_headers.specs.MessageReaders.{Delays}
 use Rattle.spec_pictures.specs.Coded.{CodedSlice}
 use Rattle.spec_pictures.specs.Accesses.{Access, access_bytes}
 use Rattle.spec_coding.specs.Encoding.{State, Picked, Chosen, Fits, Refused, Choice}
@@ -59,12 +60,12 @@ first_fit bits have (t ∷ ts) = if nat_le (bits t) have then Some t else first_
 
 -- ---- delays (clauses D.2.2 and D.2.3)
 
--- a buffering period begins with each IDR picture; two clock ticks a picture
+-- a buffering period begins with each IDR picture
 abbrev pub removal_delay : State → ℕ
-removal_delay s = 2 * (s.ledger.units - s.last_idr)
+removal_delay s = removal_ticks s.ledger.units s.last_idr
 
 abbrev pub output_delay : Bool → State → PlanStep → ℕ
-output_delay reorders s st = 2 * (st.display + (if reorders then 1 else 0) - s.ledger.units)
+output_delay reorders s st = output_ticks reorders st.display s.ledger.units
 
 abbrev pub delays_of : Film → State → PlanStep → Delays
 delays_of f s st = record {

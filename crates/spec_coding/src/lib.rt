@@ -2,20 +2,23 @@
 //! definitions, and their laws.
 #![tactic(auto)]
 
-ghost use Rattle.std.specs.Prelude.{ℕ, ◌≡◌, ◌≤◌, ◌<◌, ◌++◌, nat_eq, Bool, true, false, List, [], None, Some, length};
+ghost use Rattle.std.specs.Prelude.{ℕ, ◌≡◌, ◌≤◌, ◌<◌, ◌++◌, ◌∷◌, nat_eq, Bool, true, false, List, [], None, Some, length};
 ghost use Rattle.std.specs.List.{AllByRecursion, IsDistinct};
 ghost use Rattle.enc_tables.specs.declared.PlanStep.{PlanStep};
 ghost use Rattle.spec_film.specs.Films.{Planes};
-ghost use Rattle.spec_bits.specs.declared.heads.SeqHead.{SeqHead};
-ghost use Rattle.spec_bits.specs.Allowed.{IsSeqHead};
+ghost use Rattle.spec_headers.specs.declared.heads.SeqHead.{SeqHead};
+ghost use Rattle.spec_headers.specs.Allowed.{IsSeqHead};
 ghost use Rattle.spec_buffer.specs.Buffer.{BufferHolds, IsRate};
 ghost use Rattle.spec_buffer.specs.Ledger.{fresh, Keeps, available, sizes_of};
-ghost use Rattle.spec_reading.specs.Messages.{Delays, AreDelays};
-ghost use Rattle.spec_pictures.specs.Decode.{Reading, decode_by, read_by};
+ghost use Rattle.spec_headers.specs.MessageReaders.{Delays, AreDelays};
+ghost use Rattle.spec_decoder.specs.Pictures.{Reading, decode_by, read_by};
 ghost use Rattle.spec_pictures.specs.Accesses.{AllCoded, AreOthers, Follows, IsPassedOver, slices_of_accesses};
-ghost use Rattle.spec_coding.specs.Encoding.{State, Picked, Fits, Refused, Choice, accesses_of, encoded, spelled, in_order};
+ghost use Rattle.spec_coding.specs.Encoding.{State, Picked, Coded, Fits, Refused, Choice, accesses_of, encoded, spelled, in_order};
 ghost use Rattle.spec_coding.specs.Trials.{Coder, Film, coarsest_trial, bits_by, choice_of, supplement_unit, filler_units};
+ghost use Rattle.spec_report.specs.declared.ReportHead.{ReportHead};
+ghost use Rattle.spec_report.specs.Lines.{picture_line};
 ghost use Rattle.spec_coding.specs.Laws.{steps_of, places, go_on, IsTrial, spendings, CoderLaws, AreSmall, FirstFits};
+ghost use Rattle.spec_coding.specs.Report.{reported, report_to, totals_of, totals_in};
 
 /// A decoder shows of what an encoding writes the pictures that it keeps, in display order, and reads its slices, also where it ended in a
 /// refusal: where each access unit is one that a decoder is owed, the steps follow one another, no two have the same place in display
@@ -61,4 +64,14 @@ pub fn small_units_are_never_refused<S>()
 pub fn messages_and_filler_are_passed_over()
     ensures messages { (d : Delays) → AreDelays d → IsPassedOver (supplement_unit d) }
     ensures filler { (n : ℕ) → AllByRecursion IsPassedOver (filler_units n) }
+{}
+
+/// Each picture adds its line to the report.
+pub fn reports_grow<S>()
+    ensures { (h : ReportHead) (ds : List (Coded S)) (d : Coded S) → report_to h (ds ++ d ∷ []) ≡ report_to h ds ++ picture_line (reported (length ds) d) }
+{}
+
+/// The totals of an encoding from the first picture on are what is kept behind it, whether it ended in a refusal or not.
+pub fn totals_add_up<S>()
+    ensures { (r : Reading S) (q : SeqHead) (f : Film) (c : Coder S) (qp : ℕ) (s : State) (xs : List (PlanStep × Planes)) → s.ledger ≡ fresh qp → s.compared ≡ 0 → totals_of (encoded r q (choice_of f c) s xs).done ≡ totals_in (encoded r q (choice_of f c) s xs).end }
 {}

@@ -1,0 +1,5 @@
+mod Cutting
+mod Examples
+mod Filling
+mod Heads
+pub mod Numbers

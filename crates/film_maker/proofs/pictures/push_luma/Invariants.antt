@@ -1,0 +1,6 @@
+use Rattle.std.proofs.Common.{◌≡◌, ◌++◌}
+use Rattle.film_maker.specs.Bands.{rows_cut, luma_place}
+use Rattle.film_maker.proofs.pictures.push_luma.Given as goal
+
+abbrev pub invariant-loop-y : goal.invariant-loop-y
+invariant-loop-y l = l.film.items ≡ l.initial.film.items ++ rows_cut (luma_place l.t) l.width l.y l.band
