@@ -2,8 +2,9 @@
 //! before them, ends.
 #![tactic(auto)]
 
-ghost use Rattle.std.specs.Prelude.{◌≡◌, ◌<◌, ◌≤◌, ◌+◌, ◌-◌, ◌*◌, ◌%◌, ◌==◌, ◌++◌, ℕ, min, true, false, [], ◌∷◌};
+ghost use Rattle.std.specs.Prelude.{◌≡◌, ◌<◌, ◌≤◌, ◌+◌, ◌-◌, ◌*◌, ◌%◌, ◌==◌, ◌++◌, ℕ, min, true, false, [], ◌∷◌, if◌then◌else◌};
 ghost use Rattle.spec_plan.specs.Plan.{fixed, group_size, group as group_of, idr_step, p_step, b_step, b_steps};
+ghost use Rattle.spec_plan.specs.Delays.{removal_ticks, output_ticks};
 
 use arrayvec::ArrayVec;
 use enc_tables::{PlanStep, SliceKind};
@@ -90,3 +91,25 @@ pub fn group(display: u32, got: u32, idr: u32, frame_num: u16) -> ArrayVec<PlanS
 
 #[cfg(test)]
 mod tests;
+
+/// The delay from the removal of the unit with which the last buffering period began to that of a picture's unit, in clock ticks, two a
+/// picture: `cpb_removal_delay` (clause D.2.3). `units` units come before the picture's and `first` before the other.
+pub fn removal_delay(units: u32, first: u32) -> u32
+    requires order { first ≤ units }
+    requires few { units ≤ 1000000 }
+    ensures { result ≡ removal_ticks units first }
+{
+    2 * (units - first)
+}
+
+/// The delay from the removal of a picture's unit to its output, in clock ticks, two a picture: `dpb_output_delay` (clause D.2.3). The picture
+/// stands at `display` in display order and at `coded` in coded order, both from 0; where pictures are coded out of display order, each is
+/// shown one picture later, so that none is wanted before it is there.
+pub fn output_delay(reorders: bool, display: u32, coded: u32) -> u32
+    requires place { display < 1000000 }
+    requires order { coded ≤ display + (if reorders then 1 else 0) }
+    ensures { result ≡ output_ticks reorders display coded }
+{
+    let shown = if reorders { display + 1 } else { display };
+    2 * (shown - coded)
+}

@@ -2,14 +2,14 @@
 use Rattle.std.proofs.Common.{ℕ, zero, suc, ◌≡◌, ◌≤◌, ◌<◌, List, [], ◌∷◌, map, take, length, Bool, true, false, cond, Some, None, refl, ap, ◌∙◌, arith}
 use Rattle.std.specs.List.{AllByRecursion}
 use Rattle.enc_tables.specs.declared.records.SliceKind.TheVariants.{P, B}
-use Rattle.spec_bits.specs.declared.heads.SeqHead.{SeqHead}
-use Rattle.spec_bits.specs.declared.heads.SliceHead.{SliceHead}
+use Rattle.spec_headers.specs.declared.heads.SeqHead.{SeqHead}
+use Rattle.spec_headers.specs.declared.heads.SliceHead.{SliceHead}
 use Rattle.spec_lists.specs.References.{Reference, kept, slid}
 use Rattle.spec_lists.specs.Heads.{is_referred}
 use Rattle.spec_lists.specs.Lists.{lists_of}
 use Rattle.spec_lists.specs.Orders.{Falling}
 use Rattle.spec_lists.proofs.Sorted.{p_lists, b_lists}
-use Rattle.spec_pictures.specs.Decode.{Reading, held_behind, made}
+use Rattle.spec_decoder.specs.Pictures.{Reading, held_behind, made}
 use Rattle.spec_pictures.specs.Accesses.{Access, picture_of, held_after}
 use Rattle.spec_plan.specs.Marks.{mark, marks_kept, marks_slid, marks_after, Falls, KindFits}
 
@@ -36,11 +36,11 @@ marks_go_on r s held a =
 
 -- ---- the lists
 
-all_marked : (F : ℕ × ℕ → Type 0) (rs : List Reference) → AllByRecursion F (map mark rs) → AllByRecursion (λ r. F (mark r)) rs
+pub all_marked : (F : ℕ × ℕ → Type 0) (rs : List Reference) → AllByRecursion F (map mark rs) → AllByRecursion (λ r. F (mark r)) rs
 all_marked F [] h = tt
 all_marked F (r ∷ rs) h = (h.0, all_marked F rs h.1)
 
-weaker : (F G : Reference → Type 0) (rs : List Reference) → ((r : Reference) → F r → G r) → AllByRecursion F rs → AllByRecursion G rs
+pub weaker : (F G : Reference → Type 0) (rs : List Reference) → ((r : Reference) → F r → G r) → AllByRecursion F rs → AllByRecursion G rs
 weaker F G [] f h = tt
 weaker F G (r ∷ rs) f h = (f r h.0, weaker F G rs f h.1)
 
@@ -49,7 +49,7 @@ falls_poc [] h = tt
 falls_poc (r ∷ rs) h =
     (weaker (λ q. (q.poc < r.poc) × (q.frame_num < r.frame_num)) (λ q. q.poc < r.poc) rs (λ q k. k.0) (all_marked (λ k. (k.0 < r.poc) × (k.1 < r.frame_num)) rs h.0), falls_poc rs h.1)
 
-falls_number : (rs : List Reference) → Falls (map mark rs) → Falling (λ r. r.frame_num) rs
+pub falls_number : (rs : List Reference) → Falls (map mark rs) → Falling (λ r. r.frame_num) rs
 falls_number [] h = tt
 falls_number (r ∷ rs) h =
     (weaker (λ q. (q.poc < r.poc) × (q.frame_num < r.frame_num)) (λ q. q.frame_num < r.frame_num) rs (λ q k. k.1) (all_marked (λ k. (k.0 < r.poc) × (k.1 < r.frame_num)) rs h.0), falls_number rs h.1)

@@ -2,4 +2,4 @@ pub mod Follow
 pub mod Places
 pub mod Lists
 pub mod Held
-mod Rows
+mod Examples

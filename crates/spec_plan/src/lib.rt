@@ -5,11 +5,11 @@
 ghost use Rattle.std.specs.Prelude.{ℕ, List, ◌<◌, ◌≤◌, ◌≡◌, ◌∷◌, [], Some, None, false, length, map, nat_eq};
 ghost use Rattle.std.specs.List.{IsDistinct};
 ghost use Rattle.enc_tables.specs.declared.SliceKind.TheVariants.{P, B};
-ghost use Rattle.spec_bits.specs.declared.heads.SeqHead.{SeqHead};
-ghost use Rattle.spec_bits.specs.declared.heads.SliceHead.{SliceHead};
+ghost use Rattle.spec_headers.specs.declared.heads.SeqHead.{SeqHead};
+ghost use Rattle.spec_headers.specs.declared.heads.SliceHead.{SliceHead};
 ghost use Rattle.spec_lists.specs.References.{Reference};
 ghost use Rattle.spec_lists.specs.Lists.{lists_of};
-ghost use Rattle.spec_pictures.specs.Decode.{Reading};
+ghost use Rattle.spec_decoder.specs.Pictures.{Reading};
 ghost use Rattle.spec_pictures.specs.Accesses.{Access, Follows, held_after};
 ghost use Rattle.spec_plan.specs.Plan.{plan_of, displays, times};
 ghost use Rattle.spec_plan.specs.Marks.{mark, marks_after, KindFits, Falls, HasLists, HasRoom};
