@@ -9,37 +9,18 @@ ghost use Rattle.spec_filter.specs.Pictures.{picture_filtered};
 
 use crate::pictures::read_picture;
 use deblock::deblock_picture;
-use enc_tables::{MbKind, MbRecord, Motion, Vector};
+use enc_tables::{MbRecord, Motion, Vector};
 use picture_planes::{Picture, Plane};
 use std::alloc::Global;
 use tool_input::{Fault, Numbers, all_numbers, as_short};
+use tool_records::kind_of;
 
 // How many numbers a record has.
 const NUMBERS: usize = 43;
 
 const WANTED: &str = "a picture of whole macroblocks with its lists and records";
 
-fn kind(number: i32) -> Option<MbKind> {
-    Some(match number {
-        0 => MbKind::Pcm,
-        1 => MbKind::Intra4,
-        2 => MbKind::Intra8,
-        3 => MbKind::Intra16,
-        4 => MbKind::P16,
-        5 => MbKind::P16x8,
-        6 => MbKind::P8x16,
-        7 => MbKind::P8x8,
-        8 => MbKind::PSkip,
-        9 => MbKind::B16,
-        10 => MbKind::B16x8,
-        11 => MbKind::B8x16,
-        12 => MbKind::B8x8,
-        13 => MbKind::BDirect,
-        14 => MbKind::BSkip,
-        _ => return None,
-    })
-}
-
+// A reference index into a list of four; -1 for none.
 fn reference(number: i32) -> Option<i8> {
     if number < -1 || number > 3 {
         return None;
@@ -93,12 +74,12 @@ fn read_record(numbers: &[i32]) -> Option<MbRecord>
         motion(&numbers[21..27])?,
     ];
     Some(MbRecord {
-        kind: kind(numbers[0])?,
+        kind: kind_of(numbers[0])?,
         transform8: numbers[1] != 0,
         modes: [0; 16],
         chroma_mode: 0,
         motion,
-        mvd: [Vector { x: 0, y: 0 }; 8],
+        mvd: [Vector::ZERO; 8],
         luma_cbp: 0,
         chroma_cbp: 0,
         qp: qp as u8,

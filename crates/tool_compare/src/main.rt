@@ -9,7 +9,7 @@ ghost use Rattle.std.specs.Prelude.{◌≤◌, length};
 mod bins;
 mod code;
 mod filter;
-mod inter;
+mod heads;
 mod motion;
 mod pictures;
 mod plans;
@@ -20,7 +20,7 @@ use std::process::ExitCode;
 use tool_input::{Fault, borrowed, ended, number_words, own_words, read_lines};
 
 const WORDS: &str =
-    "bins, slices, motion, filter, plans WIDTH HEIGHT PICTURES T8X8 QP FIRST_ROW.., or search WIDTH HEIGHT RANGE PAIRS";
+    "bins, slices, motion, filter, heads, plans WIDTH HEIGHT PICTURES T8X8 QP FIRST_ROW.., or search WIDTH HEIGHT RANGE PAIRS";
 
 const PARTS: &str = "parts, each of which begins with a line `= NAME SETTINGS..`";
 
@@ -36,6 +36,7 @@ fn ask(rt: &HostRuntime, words: &[&str], lines: &[String]) -> Result<(), Fault> 
         ("slices", []) => slices::code_slices(rt, lines),
         ("motion", []) => motion::derive_lines(rt, lines),
         ("filter", []) => filter::filter_picture(rt, lines),
+        ("heads", []) => heads::answer_lines(rt, lines),
         ("plans", settings) => plans::plan_pictures(rt, settings, lines),
         ("search", settings) => search::search_pictures(rt, settings, lines),
         _ => Err(Fault::Words(WORDS)),

@@ -9,32 +9,14 @@ ghost use Rattle.std.specs.Prelude.{◌≤◌, ◌<◌, ◌+◌, length, IfSome}
 use enc_tables::{Motion, Vector};
 use motion_derive::{Field, direct_motion, predict, skip_motion};
 use std::fmt;
-use tool_input::{Fault, as_short, numbers_of};
-
-// A reference index, -1 to 31.
-fn reference(number: i32) -> Option<i8> {
-    if number < -1 || number > 31 {
-        return None;
-    }
-    Some(number as i8)
-}
+use tool_input::{Fault, numbers_of};
+use tool_records::{motion_of, reference_of};
 
 // The block whose seven numbers begin at a place; the outer `None` is for numbers out of their ranges.
 fn block(numbers: &[i32], at: usize) -> Option<Option<Motion>>
     requires { at + 7 ≤ length numbers.now }
 {
-    let first = Vector {
-        x: as_short(numbers[at + 2])?,
-        y: as_short(numbers[at + 3])?,
-    };
-    let second = Vector {
-        x: as_short(numbers[at + 5])?,
-        y: as_short(numbers[at + 6])?,
-    };
-    let motion = Motion {
-        refs: [reference(numbers[at + 1])?, reference(numbers[at + 4])?],
-        vectors: [first, second],
-    };
+    let motion = motion_of(&numbers[at + 1..at + 7])?;
     Some(if numbers[at] == 0 { None } else { Some(motion) })
 }
 
@@ -68,7 +50,12 @@ fn partition(numbers: &[i32]) -> Option<(u8, u8, u8, i8)>
     if shape < 0 || shape > 3 || part < 0 || part > 3 || list < 0 || list > 1 {
         return None;
     }
-    Some((shape as u8, part as u8, list as u8, reference(numbers[4])?))
+    Some((
+        shape as u8,
+        part as u8,
+        list as u8,
+        reference_of(numbers[4])?,
+    ))
 }
 
 // What a line asks for.

@@ -1,7 +1,8 @@
 // `blocks`: takes random 4x4 or 8x8 blocks through the transforms and the quantiser and back. What is printed is a sum of all that comes back.
 ghost use Rattle.std.specs.Prelude.{◌≡◌, ◌≤◌, ◌<◌, IfOk};
 ghost use Rattle.std.specs.List.{All};
-ghost use Rattle.spec_residual.specs.Blocks.{AllWithin, Within};
+ghost use Rattle.spec_residual.specs.Blocks.{AllWithin};
+ghost use Rattle.spec_basics.specs.Bounds.{Within};
 ghost use Rattle.spec_residual.specs.Levels.{greatest, places};
 ghost use Rattle.spec_residual.specs.declared.BlockKind.TheVariants.{Luma4};
 ghost use Rattle.tool_time.specs.Through.{IsDifferences, remade, all_remade, through4 as through4_of, through8 as through8_of};

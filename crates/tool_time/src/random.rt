@@ -1,5 +1,5 @@
 // Random numbers, one from another.
-ghost use Rattle.spec_residual.specs.Blocks.{Within};
+ghost use Rattle.spec_basics.specs.Bounds.{Within};
 
 /// Where a sequence of random numbers stands.
 #[derive(Drop)]

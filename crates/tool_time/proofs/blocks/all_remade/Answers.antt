@@ -1,6 +1,7 @@
 use Rattle.std.proofs.Common.{◌≡◌, ◌<◌, ℕ, ℤ, Bool, List, length, arith, subst, sym, refl}
 use Rattle.spec_residual.specs.declared.BlockKind.{BlockKind}
-use Rattle.spec_residual.specs.Blocks.{Within, item}
+use Rattle.spec_basics.specs.Bounds.{Within}
+use Rattle.spec_residual.specs.Blocks.{item}
 use Rattle.spec_residual.specs.Levels.{level_of}
 use Rattle.spec_residual.proofs.Bounds.{rescaled_small}
 use Rattle.spec_residual.proofs.Listed.{is_listed}

@@ -1,5 +1,6 @@
 use Rattle.std.proofs.Common.{◌≡◌, ◌<◌, ℕ, length}
-use Rattle.spec_residual.specs.Blocks.{Within, item}
+use Rattle.spec_basics.specs.Bounds.{Within}
+use Rattle.spec_residual.specs.Blocks.{item}
 use Rattle.tool_time.proofs.blocks.differences.Given as goal
 
 abbrev pub invariant-loop-p : goal.invariant-loop-p
