@@ -2,6 +2,9 @@
 import re
 import sys
 
+# The types of macroblocks, as a reference encoder's dump names them, in the order of `MbKind`: programs take a type as its place.
+MACROBLOCK_TYPES = ["Pcm", "Intra4", "Intra8", "Intra16", "P16", "P16x8", "P8x16", "P8x8", "PSkip", "B16", "B16x8", "B8x16", "B8x8", "BDirect", "BSkip"]
+
 
 class Bits:
     """Bits that are read from the front, as ITU-T H.264 reads them (clauses 7.2 and 9.1)."""

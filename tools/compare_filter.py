@@ -2,10 +2,9 @@
 import os, random, re, subprocess, sys
 
 folder, reference, program = sys.argv[1:]
-from common import Counts
+from common import MACROBLOCK_TYPES, Counts
 from plain_filter import deblock
 
-KINDS = ["Pcm", "Intra4", "Intra8", "Intra16", "P16", "P16x8", "P8x16", "P8x8", "PSkip", "B16", "B16x8", "B8x16", "B8x8", "BDirect", "BSkip"]
 STILL = [[(-1, (0, 0)), (-1, (0, 0))] for _ in range(4)]
 
 
@@ -14,7 +13,7 @@ def proved(planes, records, lists, width, height):
     text = [f"{16 * width} {16 * height}"] + [" ".join(map(str, entries)) for entries in lists]
     text += [" ".join(map(str, row)) for plane in planes for row in plane]
     for mb in records:
-        numbers = [KINDS.index(mb["kind"]), int(mb["transform8"]), mb["qp"]]
+        numbers = [MACROBLOCK_TYPES.index(mb["kind"]), int(mb["transform8"]), mb["qp"]]
         for (r0, v0), (r1, v1) in mb["motion"]:
             numbers += [r0, r1, *v0, *v1]
         numbers += [int(any(16 * b <= place < 16 * b + 16 for place in mb["levels"])) for b in range(16)]
@@ -65,7 +64,7 @@ def records_of(path):
             out.append([])
         elif match := re.match(r"  mb \d+ \(\d+,\d+\) (\w+) t8 (\d) .* qp (\d+)", line):
             kind = match[1]
-            out[-1].append({"kind": kind, "intra": KINDS.index(kind) < 4, "pcm": kind == "Pcm", "transform8": match[2] == "1",
+            out[-1].append({"kind": kind, "intra": MACROBLOCK_TYPES.index(kind) < 4, "pcm": kind == "Pcm", "transform8": match[2] == "1",
                             "qp": int(match[3]), "levels": [], "motion": STILL})
         elif line.startswith("   luma "):
             out[-1][-1]["levels"] = [int(word.split(":")[0]) for word in line.split()[1].split(",")]
@@ -98,8 +97,8 @@ def intra_pictures(rng):
 
 
 def random_record(rng):
-    kind = rng.choice(KINDS)
-    intra = KINDS.index(kind) < 4
+    kind = rng.choice(MACROBLOCK_TYPES)
+    intra = MACROBLOCK_TYPES.index(kind) < 4
     motion = STILL
     if not intra:
         def one():

@@ -5,11 +5,10 @@ usage: compare_macroblocks.py FOLDER REFERENCE PROGRAM
 """
 import os, random, re, subprocess, sys
 
-from common import Bits, Counts, units
+from common import MACROBLOCK_TYPES, Bits, Counts, units
 
 folder, reference, program = sys.argv[1:4]
 
-KINDS = ["Intra4", "Intra8", "Intra16", "P16", "P16x8", "P8x16", "P8x8", "PSkip", "B16", "B16x8", "B8x16", "B8x8", "BDirect", "BSkip"]
 
 def slices_of_stream(stream, unfiltered):
     """First macroblock, QP, type (0 for I, 1 for P, 2 for B), lengths of the lists and data of each slice (7.3.3, with frame_num and
@@ -65,7 +64,7 @@ def slices_of_dump(text):
                 yield mbs
             mbs = []
         elif words[0] == "mb":
-            kind = KINDS.index(words[3])
+            kind = MACROBLOCK_TYPES.index(words[3])
             at = words.index("cbp")
             luma, chroma = words[at + 1].split("/")
             record = [kind, int(words[5]), int(words[words.index("chroma_mode") + 1]), int(luma), int(chroma)] + [0] * 416
@@ -128,7 +127,7 @@ def main():
                     lines += f"{(width + 15) // 16} {first} {len(mbs)} {slice_qp} {int('on' in words)} {kind} {lists[0]} {lists[1]}\n"
                     lines += "".join(" ".join(map(str, mb)) + "\n" for mb in mbs)
                     for mb in mbs:
-                        name = KINDS[mb[0]] + (" of 8x8 transforms" if mb[1] and mb[0] != 1 else "")
+                        name = MACROBLOCK_TYPES[mb[0]] + (" of 8x8 transforms" if mb[1] and mb[0] != MACROBLOCK_TYPES.index("Intra8") else "")
                         kinds[name] = kinds.get(name, 0) + 1
                 run = subprocess.run([program, "slices"], input=lines.encode(), capture_output=True)
                 codes = [bytes.fromhex(line.decode()) for line in run.stdout.split() if re.fullmatch(b"[0-9A-F]+", line)]
