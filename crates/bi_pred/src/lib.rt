@@ -4,8 +4,8 @@
 ghost use Rattle.std.specs.Prelude.{◌≡◌, length};
 ghost use Rattle.bi_pred.specs.Averages.{averaged};
 
-/// The default weighted prediction from two lists: each sample of `out` is the rounded mean of the samples of `a` and `b`, which have its
-/// length.
+/// The default weighted prediction from two lists: each sample of `out` is the rounded mean of the samples of `a` and
+/// `b`, which have its length.
 pub fn average(a: &[u8], b: &[u8], out: &mut [u8])
     requires first { length a.now ≡ length out.old }
     requires second { length b.now ≡ length out.old }
@@ -17,15 +17,4 @@ pub fn average(a: &[u8], b: &[u8], out: &mut [u8])
 }
 
 #[cfg(test)]
-mod tests {
-    use super::average;
-    use std::test::Fail;
-
-    #[test]
-    fn means_are_rounded_up(rt: HostRuntime) -> Result<(), Fail> {
-        let mut out = [9; 5];
-        average(&[1, 0, 255, 255, 7], &[2, 0, 255, 254, 8], &mut out);
-        assert_eq!(rt; out, [2, 0, 255, 255, 8]);
-        Ok(())
-    }
-}
+mod tests;

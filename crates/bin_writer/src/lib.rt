@@ -13,6 +13,7 @@ ghost use Rattle.bin_writer.specs.Coding.{seen, IsReady, Codes, CodesPlain, IsCo
 use bit_strings::Full;
 use cabac_coder::Coder;
 use cabac_contexts::{Contexts, state};
+use enc_tables::{BYPASS, TERMINATE};
 use spec_syntax::Bin;
 
 /// Codes a bin by the state of a context, which then follows it. The context is below 436, and isn't that of the bins
@@ -54,8 +55,8 @@ fn code_one(coder: &mut Coder, contexts: &mut Contexts, bin: Bin)
     ensures { Codes (seen coder.old contexts.old) (bin ∷ []) (seen coder.new contexts.new) }
 {
     match bin.ctx {
-        1000 => code_bypass(coder, bin.bit),
-        276 => code_no_end(coder),
+        BYPASS => code_bypass(coder, bin.bit),
+        TERMINATE => code_no_end(coder),
         _ => code_bin(coder, contexts, bin.ctx, bin.bit),
     }
 }

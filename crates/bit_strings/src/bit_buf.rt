@@ -14,7 +14,8 @@ pub struct Full;
 
 /// A list of bits with a room, in memory that is taken once.
 ///
-/// Each call that appends answers `Full` exactly where the length after it would pass the room, and then changes nothing.
+/// Each call that appends answers `Full` exactly where the length after it would pass the room, and then changes
+/// nothing.
 #[derive(Drop)]
 pub struct BitBuf {
     bytes: Vec<u8>,

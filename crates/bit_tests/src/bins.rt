@@ -15,8 +15,8 @@ fn first_context(rt: HostRuntime) {
     assert_eq!(rt; contexts.states[0].mps, false);
 }
 
-// A level of 1632 as the first of a luma block: 14 ones, then by bypass ten ones, a zero and 1001010010. A difference of −1 is mapped
-// to 2, and 2 is written as 110.
+// A level of 1632 as the first of a luma block: 14 ones, then by bypass ten ones, a zero and 1001010010. A difference
+// of −1 is mapped to 2, and 2 is written as 110.
 #[test]
 fn strings(rt: HostRuntime) {
     let level = bins_level(2, 0, 0, 1631);

@@ -1,5 +1,5 @@
-//! The ledger of a constant-rate buffer: how many bits the next access unit may have, and what is due behind it (ITU-T H.264, Annex C).
-//! All numbers are exact: every bit is counted 90000·num-fold, in whole numbers of 128 bits.
+//! The ledger of a constant-rate buffer: how many bits the next access unit may have, and what is due behind it (ITU-T
+//! H.264, Annex C). All numbers are exact: every bit is counted 90000·num-fold, in whole numbers of 128 bits.
 #![tactic(auto)]
 
 ghost use Rattle.std.specs.Prelude.{◌≡◌, ◌≤◌, ◌<◌, ◌+◌, ◌-◌, ◌*◌, ◌^◌, ℕ};
@@ -9,7 +9,8 @@ ghost use Rattle.buffer_control.specs.Kept.{rate_by, spent_by};
 
 use enc_tables::SliceKind;
 
-/// What was spent so far of the bits that come at a constant rate, and the base of the quantisation parameters, which follows it.
+/// What was spent so far of the bits that come at a constant rate, and the base of the quantisation parameters, which
+/// follows it.
 #[derive(Drop)]
 pub struct Ledger {
     // bits a second (BitRate)
@@ -35,7 +36,8 @@ pub struct Ledger {
     ghost base: { qp ≤ 51 },
 }
 
-/// The delay that stands where none is set, in 90000ths of a second: half of a buffer of `cpb` bits fills in it. It is at most 2^32 - 1.
+/// The delay that stands where none is set, in 90000ths of a second: half of a buffer of `cpb` bits fills in it. It is
+/// at most 2^32 - 1.
 pub fn half_full(rate: u32, cpb: u32) -> u32
     requires { 1 ≤ rate }
     ensures { result ≡ half_full_in rate cpb }
@@ -48,9 +50,10 @@ impl Ledger {
     ghost use Rattle.spec_buffer.specs.Ledger.{fresh, available, excess, filler_bytes, base_after, spent, start_qp, initial_delay};
     ghost use Rattle.buffer_control.specs.Seen.{rate_of, spent_of};
 
-    /// A ledger of which nothing was spent. Bits come at `rate` a second into a buffer of `cpb` bits; the first unit is removed after
-    /// `delay` 90000ths of a second, and `num` pictures come in `den` seconds. The buffer holds a picture's share and 48 bits, and at the
-    /// first removal it isn't over its size. `qp` is the base of the quantisation parameters.
+    /// A ledger of which nothing was spent. Bits come at `rate` a second into a buffer of `cpb` bits; the first unit is
+    /// removed after `delay` 90000ths of a second, and `num` pictures come in `den` seconds. The buffer holds a
+    /// picture's share and 48 bits, and at the first removal it isn't over its size. `qp` is the base of the
+    /// quantisation parameters.
     pub fn new(rate: u32, cpb: u32, delay: u32, num: u32, den: u32, qp: u8) -> Ledger
         requires settings { IsRate (rate_by rate cpb delay num den) }
         requires comes { 1 ≤ rate }
@@ -104,7 +107,8 @@ impl Ledger {
         (self.left() / self.scale()) as u64
     }
 
-    // How far the buffer would be over its size when the unit behind one of so many bits is removed, counted `scale`-fold.
+    // How far the buffer would be over its size when the unit behind one of so many bits is removed, counted
+    // `scale`-fold.
     fn excess(&self, bits: u64) -> u128
         ensures value { result ≡ excess (rate_of self.now) (spent_of self.now) bits }
         ensures bound { result < 2 ^ 120 }
@@ -128,9 +132,9 @@ impl Ledger {
         bytes.max(5)
     }
 
-    /// The bytes of the filler unit that is due behind an access unit of so many bits, start codes included: 0 where none is due, else
-    /// the least number from 5 on that keeps the buffer from being over its size when the next unit is removed. With it the unit still
-    /// has at most the bits that are there.
+    /// The bytes of the filler unit that is due behind an access unit of so many bits, start codes included: 0 where
+    /// none is due, else the least number from 5 on that keeps the buffer from being over its size when the next unit
+    /// is removed. With it the unit still has at most the bits that are there.
     pub fn filler_bytes(&self, bits: u64) -> u32
         requires { bits ≤ available (rate_of self.now) (spent_of self.now) }
         ensures value { result ≡ filler_bytes (rate_of self.now) (spent_of self.now) bits }
@@ -180,7 +184,8 @@ impl Ledger {
         }
     }
 
-    /// The initial removal delay of a buffering period that begins with the next access unit, in 90000ths of a second (clause D.2.2).
+    /// The initial removal delay of a buffering period that begins with the next access unit, in 90000ths of a second
+    /// (clause D.2.2).
     #[tactic(auto, unfolding(spec_buffer::specs::Ledger::initial_delay))]
     pub fn bp_delay(&self) -> u32
         ensures { result ≡ initial_delay (rate_of self.now) (spent_of self.now) }

@@ -1,3 +1,4 @@
+// Ledgers of a few units, worked out by hand.
 ghost use Rattle.std.specs.Prelude.{◌≡◌, ◌≤◌, ◌<◌};
 
 use super::{Ledger, half_full};
@@ -21,6 +22,7 @@ fn the_base_follows_the_units(rt: HostRuntime) -> Result<(), Fail> {
     for (bits, qp) in units {
         let mut ledger = Ledger::new(1_000_000, 1_000_000, 45_000, 25, 1, 26);
         assert_eq!(rt; ledger.available(), 500_000);
+        // The filler isn't looked at: the base follows the unit's own bits.
         let _ = spend_most(&mut ledger, bits);
         assert_eq!(rt; ledger.start_qp(SliceKind::I), qp - 2);
         assert_eq!(rt; ledger.start_qp(SliceKind::P), qp);

@@ -1,3 +1,4 @@
+// Bins, coded behind the bits of a buffer (ITU-T H.264, clause 9.3.4).
 ghost use Rattle.std.specs.Prelude.{◌≡◌, ℕ, ◌+◌, ◌-◌, ◌*◌, ◌/◌, ◌%◌, ◌^◌, ◌<◌, ◌≤◌, ◌↔◌, ◌⊎◌, Bool, true, false, List, length, drop, ◌++◌, IsTrue, IsFalse, IsErr, OnOk, OnErr};
 ghost use Rattle.enc_tables.specs.Arithmetic.{state_after};
 ghost use Rattle.spec_cabac.specs.Bins.{Bin, EndsOnce};
@@ -18,8 +19,8 @@ use std::marker::Model;
 /// register and the range.
 ///
 /// Contracts see the bits, the room and the bits made of the buffer at the start, the code's whole number with its
-/// doublings and the range, whether a terminate 1 was coded, and whether a bin did not fit. A bin fits where the bits of
-/// a code that ends after it fit the room; from the first one that does not fit each call answers `Full`.
+/// doublings and the range, whether a terminate 1 was coded, and whether a bin did not fit. A bin fits where the bits
+/// of a code that ends after it fit the room; from the first one that does not fit each call answers `Full`.
 #[derive(Drop)]
 pub struct Coder {
     bytes: PendingBytes,
@@ -59,7 +60,8 @@ impl Coder {
         }
     }
 
-    /// Codes a bin by a context, whose state then follows the bin (clause 9.3.4.2). After `Full` the context is as it was.
+    /// Codes a bin by a context, whose state then follows the bin (clause 9.3.4.2). After `Full` the context is as it
+    /// was.
     #[inline]
     pub fn bin(&mut self, ctx: &mut CtxState, bit: bool) -> Result<(), Full>
         requires live { self.old.ended ≡ false }
@@ -192,7 +194,8 @@ impl Coder {
         requires fits { self.full ≡ false }
         ensures bits { result ≡ record { text = self.start ++ flushed (coded_of self); room = self.room; made = self.made } }
 
-        // Whatever bins led here, these are the bits of their code, and where they end once the decoder reads them back.
+        // Whatever bins led here, these are the bits of their code, and where they end once the decoder reads them
+        // back.
         ensures code { (bins : List Bin) → run bins coded_start ≡ coded_of self → result.text ≡ self.start ++ arith_code bins }
         ensures read_back { (bins : List Bin) → EndsOnce bins → run bins coded_start ≡ coded_of self → ReadsBack bins (drop (length self.start) result.text) }
     {

@@ -1,3 +1,4 @@
+// The register and the range of the arithmetic coder (ITU-T H.264, clause 9.3.4.2).
 ghost use Rattle.std.specs.Prelude.{◌≡◌, ℕ, ◌+◌, ◌-◌, ◌*◌, ◌/◌, ◌^◌, ◌<◌, ◌≤◌, Bool, cond, length, min};
 ghost use Rattle.spec_cabac.specs.Code.{renormalised};
 ghost use Rattle.spec_cabac.proofs.Ranges.{IsBounded};

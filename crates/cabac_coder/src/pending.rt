@@ -1,3 +1,4 @@
+// The bytes of a code that a carry may still reach.
 ghost use Rattle.std.specs.Prelude.{◌≡◌, ℕ, ◌+◌, ◌-◌, ◌*◌, ◌^◌, ◌<◌, ◌≤◌, Bool, true, false, cond, List, [], ◌++◌, length};
 ghost use Rattle.spec_bits.specs.Bits.{digits};
 ghost use Rattle.cabac_coder.specs.Emitted.{Emitted, emitted, run_of};

@@ -7,7 +7,7 @@ use crate::increments::{doubled, has_bit};
 use crate::near::{
     above_block2, above_block4, above_of2, above_of4, left_block2, left_block4, left_of2, left_of4,
 };
-use enc_tables::MbRecord;
+use enc_tables::{CHROMA_DC_BLOCK, INTRA16_AC_BLOCK, INTRA16_DC_BLOCK, LUMA4_BLOCK, MbRecord};
 
 #[inline]
 fn has_level(levels: &[i16]) -> bool
@@ -16,7 +16,8 @@ fn has_level(levels: &[i16]) -> bool
     levels.iter().any(|level| *level != 0)
 }
 
-// Whether a block of a macroblock that is neither I_PCM nor skipped has a level that isn't 0; a block that isn't written has none.
+// Whether a block of a macroblock that is neither I_PCM nor skipped has a level that isn't 0; a block that isn't
+// written has none.
 
 fn luma_dc_coded(mb: &MbRecord) -> bool
     ensures { result ≡ luma_dc_coded_of mb.now }
@@ -172,11 +173,12 @@ fn inc_chroma_ac(
     )
 }
 
-/// The increment of coded_block_flag's context, for a block of `mb`; `left` and `above` are None where that macroblock isn't available.
+/// The increment of coded_block_flag's context, for a block of `mb`; `left` and `above` are None where that macroblock
+/// isn't available.
 ///
-/// Categories are 0 for the DC levels of Intra 16x16, 1 for its AC levels, 2 for other 4x4 luma blocks, 3 for chroma DC levels and 4 for
-/// chroma AC levels. `component` is 1 for Cr, else 0. `block` is a 4x4 luma block, 0 to 15, for categories 1 and 2, a chroma block, 0 to
-/// 3, for category 4, and 0 for the others. Of `mb` the blocks before this one are looked at.
+/// Categories are those of blocks below 8x8 (`INTRA16_DC_BLOCK` and so on). `component` is 1 for Cr, else 0. `block` is
+/// a 4x4 luma block, 0 to 15, for the categories of 4x4 luma blocks, a chroma block, 0 to 3, for AC levels of chroma,
+/// and 0 for DC levels. Of `mb` the blocks before this one are looked at.
 #[tactic(auto, unfolding(spec_contexts::specs::Increments::inc_coded))]
 pub fn inc_coded(
     mb: &MbRecord,
@@ -194,9 +196,9 @@ pub fn inc_coded(
     ensures most { result ≤ 3 }
 {
     match category {
-        0 => inc_luma_dc(mb, left, above),
-        1 | 2 => inc_luma(mb, left, above, block),
-        3 => inc_chroma_dc(mb, left, above, component),
+        INTRA16_DC_BLOCK => inc_luma_dc(mb, left, above),
+        INTRA16_AC_BLOCK | LUMA4_BLOCK => inc_luma(mb, left, above, block),
+        CHROMA_DC_BLOCK => inc_chroma_dc(mb, left, above, component),
         _ => inc_chroma_ac(mb, left, above, component, block),
     }
 }

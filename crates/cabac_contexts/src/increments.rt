@@ -112,8 +112,8 @@ fn has_chroma(pattern: u8, second: bool) -> bool
     if second { pattern == 2 } else { pattern != 0 }
 }
 
-/// The increment of mb_skip_flag's context (clause 9.3.3.1.1.1). `left` and `above` are None where that macroblock isn't available, here
-/// as in the other calls.
+/// The increment of mb_skip_flag's context (clause 9.3.3.1.1.1). `left` and `above` are None where that macroblock
+/// isn't available, here as in the other calls.
 #[tactic(auto, unfolding(spec_contexts::specs::Increments::inc_skip))]
 pub fn inc_skip(left: Option<&MbRecord>, above: Option<&MbRecord>) -> u8
     ensures value { result ≡ inc_skip_of (pointed left.entry) (pointed above.entry) }
@@ -158,8 +158,8 @@ pub fn inc_transform(left: Option<&MbRecord>, above: Option<&MbRecord>) -> u8
     plain(transform_flag(left), transform_flag(above))
 }
 
-/// The increment of mb_qp_delta's first context (clause 9.3.3.1.1.5). `last_delta`: the macroblock before in the slice has a written
-/// difference that isn't 0.
+/// The increment of mb_qp_delta's first context (clause 9.3.3.1.1.5). `last_delta`: the macroblock before in the slice
+/// has a written difference that isn't 0.
 pub fn inc_qp_delta(last_delta: bool) -> u8
     ensures value { result ≡ inc_qp_delta_of last_delta }
     ensures most { result ≤ 1 }
@@ -167,8 +167,8 @@ pub fn inc_qp_delta(last_delta: bool) -> u8
     weight(last_delta)
 }
 
-/// The increment of the context of coded_block_pattern's bin for 8x8 luma block `block`, 0 to 3, of `mb`, of which the bits of the blocks
-/// before are used (clause 9.3.3.1.1.4).
+/// The increment of the context of coded_block_pattern's bin for 8x8 luma block `block`, 0 to 3, of `mb`, of which the
+/// bits of the blocks before are used (clause 9.3.3.1.1.4).
 #[tactic(auto, unfolding(spec_contexts::specs::Increments::inc_luma_cbp))]
 pub fn inc_luma_cbp(
     mb: &MbRecord,
@@ -186,8 +186,8 @@ pub fn inc_luma_cbp(
     )
 }
 
-/// The increment of the contexts of coded_block_pattern's chroma bins, the first or the second (clause 9.3.3.1.1.4). The second bin's
-/// contexts are four others.
+/// The increment of the contexts of coded_block_pattern's chroma bins, the first or the second (clause 9.3.3.1.1.4).
+/// The second bin's contexts are four others.
 #[tactic(auto, unfolding(spec_contexts::specs::Increments::inc_chroma_cbp))]
 pub fn inc_chroma_cbp(left: Option<&MbRecord>, above: Option<&MbRecord>, second: bool) -> u8
     ensures value { result ≡ inc_chroma_cbp_of (pointed left.entry) (pointed above.entry) second }

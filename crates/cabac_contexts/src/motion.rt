@@ -62,8 +62,8 @@ fn mvd_class(sum: u32) -> u8
     }
 }
 
-/// The increment of ref_idx's first context, in list `list`, 0 or 1, for the part of `mb` that begins at 8x8 block `block`, 0 to 3
-/// (clause 9.3.3.1.1.6).
+/// The increment of ref_idx's first context, in list `list`, 0 or 1, for the part of `mb` that begins at 8x8 block
+/// `block`, 0 to 3 (clause 9.3.3.1.1.6).
 #[tactic(auto, unfolding(spec_contexts::specs::Increments::inc_ref))]
 pub fn inc_ref(
     mb: &MbRecord,
@@ -83,8 +83,8 @@ pub fn inc_ref(
     )
 }
 
-/// The increment of the first context of a component, vertical or horizontal, of a vector difference, in list `list`, 0 or 1, for the
-/// part of `mb` that begins at 8x8 block `block`, 0 to 3 (clause 9.3.3.1.1.7).
+/// The increment of the first context of a component, vertical or horizontal, of a vector difference, in list `list`, 0
+/// or 1, for the part of `mb` that begins at 8x8 block `block`, 0 to 3 (clause 9.3.3.1.1.7).
 #[tactic(auto, unfolding(spec_contexts::specs::Increments::inc_mvd))]
 pub fn inc_mvd(
     mb: &MbRecord,

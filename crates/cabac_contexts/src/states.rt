@@ -10,14 +10,14 @@ use enc_tables::{CONTEXT_PAIRS_I, CONTEXT_PAIRS_PB, CtxState, SliceKind};
 /// The states of the contexts of a slice.
 #[derive(Clone, Copy)]
 pub struct Contexts {
-    /// By context number. The contexts 70 to 72 and 276 to 398, and in I slices 11 to 59, aren't used by slices of frames; they start
-    /// from the pair 0, 0, as the state 62 of 0.
+    /// By context number. The contexts 70 to 72 and 276 to 398, and in I slices 11 to 59, aren't used by slices of
+    /// frames; they start from the pair 0, 0, as the state 62 of 0.
     pub states: [CtxState; 436],
 }
 
 impl Contexts {
-    /// The states where a slice of this kind starts (ITU-T H.264, clause 9.3.1.1). `qp`, the slice's quantisation parameter, is at
-    /// most 51.
+    /// The states where a slice of this kind starts (ITU-T H.264, clause 9.3.1.1). `qp`, the slice's quantisation
+    /// parameter, is at most 51.
     pub fn init(kind: SliceKind, qp: u8) -> Contexts
         requires { qp ≤ 51 }
         ensures states { result.states ≡ start_states (pairs_of kind) qp }
@@ -28,8 +28,8 @@ impl Contexts {
     }
 }
 
-/// Lends the state of context `index` for writing; all other states stay. `states` are those of `Contexts`, and the index is below
-/// their number.
+/// Lends the state of context `index` for writing; all other states stay. `states` are those of `Contexts`, and the
+/// index is below their number.
 #[inline]
 pub fn state(states: &mut [CtxState], index: u16) -> &mut CtxState
     requires { index < length states.old }

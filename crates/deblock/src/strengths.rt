@@ -1,29 +1,18 @@
 // How strongly the parts of a macroblock's edges are filtered (ITU-T H.264, clause 8.7.2.1).
 ghost use Rattle.std.specs.Prelude.{◌≡◌, ◌<◌, ◌≤◌, ℕ, ◌&&◌, ◌||◌, ◌==◌, ◌+◌, ◌*◌, ◌/◌, ◌%◌, cond, not, true, false, length, slice_index, slice_index_or, slice_range, Bool, nat_lt, Option, Some, None};
-ghost use Rattle.spec_basics.specs.Blocks.{block_number};
 ghost use Rattle.spec_contexts.specs.Increments.{some_level};
 ghost use Rattle.spec_filter.specs.Strengths.{is_coded as is_coded_at, strength as strength_of, picture_at, is_near as is_near_to, is_like as is_like_to, is_alike as is_alike_to, motion_at};
 ghost use Rattle.spec_filter.specs.Macroblocks.{vertical_strength, horizontal_strength, strengths};
 ghost use Rattle.deblock.specs.Coded.{CodedTo};
 
 use enc_tables::{MbRecord, Motion, Vector};
+use whole_numbers::block_number;
 
 #[inline]
 fn has_level(levels: &[i16]) -> bool
     ensures { result ≡ some_level levels.now }
 {
     levels.iter().any(|level| *level != 0)
-}
-
-// The number of the 4x4 block in this row and column.
-#[inline]
-fn block_number(row: usize, column: usize) -> usize
-    requires row { row < 4 }
-    requires column { column < 4 }
-    ensures value { result ≡ block_number column row }
-    ensures most { result < 16 }
-{
-    8 * (row / 2) + 4 * (column / 2) + 2 * (row % 2) + column % 2
 }
 
 // Whether the transform block with this 4x4 block has a level that isn't 0.
@@ -34,7 +23,7 @@ fn is_coded(mb: &MbRecord, row: usize, column: usize) -> bool
     requires column { column < 4 }
     ensures { result ≡ is_coded_at mb.now row column }
 {
-    let b = block_number(row, column);
+    let b = block_number(column, row);
     if mb.transform8 {
         let start = 64 * (b / 4);
         has_level(&mb.luma[start..start + 64])
@@ -115,7 +104,7 @@ fn motion_of<'a>(side: BlockSide<'a>) -> &'a Motion
     requires column { side.column < 4 }
     ensures { result.now ≡ motion_at side.entry.mb.now side.entry.row side.entry.column }
 {
-    &side.mb.motion[block_number(side.row, side.column) / 4]
+    &side.mb.motion[block_number(side.column, side.row) / 4]
 }
 
 // bS between two blocks.

@@ -1,3 +1,4 @@
+// The arithmetic coder's tables of ranges and states.
 ghost use Rattle.std.specs.Prelude.{◌≡◌, ◌==◌, ℕ, ◌≤◌, not, cond};
 ghost use Rattle.enc_tables.specs.Arithmetic.{lps_range as lps_range_of, state_after, after_mps, after_lps};
 

@@ -5,9 +5,10 @@ ghost use Rattle.enc_tables.specs.declared.records.MbKind.TheVariants as kinds;
 
 use crate::records::{MbKind, MbPlan, SliceKind};
 
-/// The kind of least cost for a macroblock of a slice, by its plan, and that cost; the first where several cost the same.
-/// Skipped and direct macroblocks aren't among them, nor is Intra 8x8 without `t8x8`. A kind costs what its parts cost and
-/// some bits, and a bit counts 2 ^ (max(0, `qp` − 12) / 6). `qp` is at most 51, and each cost in the plan is below 2 ^ 24.
+/// The kind of least cost for a macroblock of a slice, by its plan, and that cost; the first where several cost the
+/// same. Skipped and direct macroblocks aren't among them, nor is Intra 8x8 without `t8x8`. A kind costs what its parts
+/// cost and some bits, and a bit counts 2 ^ (max(0, `qp` − 12) / 6). `qp` is at most 51, and each cost in the plan is
+/// below 2 ^ 24.
 #[tactic(auto, unfolding(crate::specs::Choice::choice))]
 pub fn choose(kind: SliceKind, plan: &MbPlan, qp: u8, t8x8: bool) -> (MbKind, u32)
     requires qp { qp ≤ 51 }

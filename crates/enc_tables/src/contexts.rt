@@ -1,7 +1,7 @@
 // What the contexts of the arithmetic coder start as.
 
-/// The pairs m, n of the contexts in I slices (ITU-T H.264, tables 9-12 and following): m of context c at 2c, n at 2c + 1.
-/// The contexts 11 to 59, 70 to 72 and 276 to 398 don't occur in I slices of frames, and have 0, 0 here.
+/// The pairs m, n of the contexts in I slices (ITU-T H.264, tables 9-12 and following): m of context c at 2c, n at 2c +
+/// 1. The contexts 11 to 59, 70 to 72 and 276 to 398 don't occur in I slices of frames, and have 0, 0 here.
 pub const CONTEXT_PAIRS_I: [i8; 872] = [
     20, -15, 2, 54, 3, 74, 20, -15, 2, 54, 3, 74, -28, 127, -23, 104, -6, 53, -1, 54, 7, 51, 0, 0,
     0, 0, 0, 0, 0, 0, 0, 0, 0, 0, 0, 0, 0, 0, 0, 0, 0, 0, 0, 0, 0, 0, 0, 0, 0, 0, 0, 0, 0, 0, 0, 0,
@@ -39,8 +39,8 @@ pub const CONTEXT_PAIRS_I: [i8; 872] = [
     23, 1, 34, 1, 43, 0, 54, -2, 55, 0, 61, 1, 64, 0, 68, -9, 92,
 ];
 
-/// The pairs m, n of the contexts in P and B slices, at a cabac_init_idc of 0 (tables 9-12 and following): m of context c at
-/// 2c, n at 2c + 1. The contexts 70 to 72 and 276 to 398 don't occur in slices of frames, and have 0, 0 here.
+/// The pairs m, n of the contexts in P and B slices, at a cabac_init_idc of 0 (tables 9-12 and following): m of context
+/// c at 2c, n at 2c + 1. The contexts 70 to 72 and 276 to 398 don't occur in slices of frames, and have 0, 0 here.
 pub const CONTEXT_PAIRS_PB: [i8; 872] = [
     20, -15, 2, 54, 3, 74, 20, -15, 2, 54, 3, 74, -28, 127, -23, 104, -6, 53, -1, 54, 7, 51, 23,
     33, 23, 2, 21, 0, 1, 9, 0, 49, -37, 118, 5, 57, -13, 78, -11, 65, 1, 62, 12, 49, -4, 73, 17,

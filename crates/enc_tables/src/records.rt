@@ -80,8 +80,8 @@ pub enum MbKind {
     BSkip,
 }
 
-/// All that the syntax says of one macroblock. A field that its type doesn't use is 0; an intra macroblock has motion that uses
-/// neither list.
+/// All that the syntax says of one macroblock. A field that its type doesn't use is 0; an intra macroblock has motion
+/// that uses neither list.
 #[derive(Clone, Copy)]
 pub struct MbRecord {
     /// The macroblock's type.
@@ -104,8 +104,8 @@ pub struct MbRecord {
     pub qp: u8,
     /// The DC levels of Intra16, in zigzag order.
     pub luma_dc: [i16; 16],
-    /// Luma levels: those of 4x4 block b in zigzag order at 16b, those of 8x8 block k at 64k. Of Intra16 the first of the 16
-    /// places is 0, since the DC levels stand apart.
+    /// Luma levels: those of 4x4 block b in zigzag order at 16b, those of 8x8 block k at 64k. Of Intra16 the first of
+    /// the 16 places is 0, since the DC levels stand apart.
     pub luma: [i16; 256],
     /// The DC levels: those of Cb at 0, those of Cr at 4.
     pub chroma_dc: [i16; 8],

@@ -10,8 +10,8 @@ pub const ZIGZAG8: [u8; 64] = [
     52, 45, 38, 31, 39, 46, 53, 60, 61, 54, 47, 55, 62, 63,
 ];
 
-/// The class of each place of a 4x4 block, row by row: 0 where row and column are even, 1 where both are odd, 2 elsewhere
-/// (clause 8.5.9).
+/// The class of each place of a 4x4 block, row by row: 0 where row and column are even, 1 where both are odd, 2
+/// elsewhere (clause 8.5.9).
 pub const CLASS4: [u8; 16] = [0, 2, 0, 2, 2, 1, 2, 1, 0, 2, 0, 2, 2, 1, 2, 1];
 
 /// The class of each place of an 8x8 block, row by row (clause 8.5.9): 0 where row and column are divisible by 4,

@@ -98,8 +98,8 @@ pub fn made_of(matches: &ArgMatches<'_>) -> Made
     }
 }
 
-/// The first fault of settings that needs no film: `Refs` where one reference picture is held and there are to be B pictures, `BigCpb`
-/// where the coded picture buffer has more than 100,000,000 bits, and none otherwise.
+/// The first fault of settings that needs no film: `Refs` where one reference picture is held and there are to be B
+/// pictures, `BigCpb` where the coded picture buffer has more than 100,000,000 bits, and none otherwise.
 #[tactic(auto, unfolding(spec_words::specs::Choices::early_of))]
 pub fn early(settings: &Settings) -> Option<SettingFault>
     ensures { result ≡ early_of settings.now }

@@ -80,11 +80,11 @@ fn trial<'a>(alloc: Global, words: &'a [&'a str]) -> Result<Command, WordsEnd>
     }
 }
 
-/// The command that the words of a command line ask for, with all defaults filled in. The first word names it, and what follows is read
-/// by `clap` as options, `--name value` or `--name=value`, in any order.
+/// The command that the words of a command line ask for, with all defaults filled in. The first word names it, and what
+/// follows is read by `clap` as options, `--name value` or `--name=value`, in any order.
 ///
-/// A fault is `NoCommand` where there is no word, `UnknownCommand` where the first one names no command, and `Refused` with clap's kind of
-/// error where clap refuses the rest. `OutOfMemory` says that memory was wanting.
+/// A fault is `NoCommand` where there is no word, `UnknownCommand` where the first one names no command, and `Refused`
+/// with clap's kind of error where clap refuses the rest. `OutOfMemory` says that memory was wanting.
 #[tactic(auto, unfolding(spec_words::specs::Commands::meaning_of))]
 pub fn settings(alloc: Global, words: &[&str]) -> Result<Command, WordsEnd>
     ensures { Answers (meaning_of (map (λ w. w.now) words.now)) result }

@@ -1,3 +1,4 @@
+// Groups, their steps and delays, worked out by hand.
 use super::{group, wanted};
 use enc_tables::{PlanStep, SliceKind};
 use std::test::Fail;

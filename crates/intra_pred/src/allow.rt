@@ -4,9 +4,9 @@ ghost use Rattle.spec_intra.specs.Predictions.{is_allowed, is_allowed_nxn, is_al
 
 use spec_intra::Avail;
 
-/// Whether a mode is allowed for a block with these neighbours (clauses 8.3.1.2, 8.3.2.2, 8.3.3 and 8.3.4): all samples that
-/// the mode needs have to be available. `size` is 4, 8 or 16 for luma blocks, and 2 for chroma; no mode of another size is
-/// allowed.
+/// Whether a mode is allowed for a block with these neighbours (clauses 8.3.1.2, 8.3.2.2, 8.3.3 and 8.3.4): all samples
+/// that the mode needs have to be available. `size` is 4, 8 or 16 for luma blocks, and 2 for chroma; no mode of another
+/// size is allowed.
 pub fn allowed(size: u8, mode: u8, avail: &Avail) -> bool
     ensures { result ≡ is_allowed size mode avail.now }
 {

@@ -22,8 +22,8 @@ pub struct Line4 {
     pub avail: Avail,
 }
 
-/// The smoothed neighbours of an 8x8 block in one line (clause 8.3.2.2.1): those at the left from the lowest upwards, the
-/// corner, those above.
+/// The smoothed neighbours of an 8x8 block in one line (clause 8.3.2.2.1): those at the left from the lowest upwards,
+/// the corner, those above.
 #[derive(Clone, Copy)]
 pub struct Line8 {
     /// The line.

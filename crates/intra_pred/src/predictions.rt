@@ -10,9 +10,9 @@ use crate::means::{chroma_of_means, mean_beside};
 use crate::planes::{plane8, plane16};
 use spec_intra::{Nb4, Nb8, Nb16, NbC};
 
-/// The prediction of a 4x4 luma block, row by row (ITU-T H.264, clause 8.3.1.2): 0 vertical, 1 horizontal, 2 mean,
-/// 3 diagonal down left, 4 diagonal down right, 5 vertical right, 6 horizontal down, 7 vertical left, 8 horizontal up. The mode
-/// has to be allowed.
+/// The prediction of a 4x4 luma block, row by row (ITU-T H.264, clause 8.3.1.2): 0 vertical, 1 horizontal, 2 mean, 3
+/// diagonal down left, 4 diagonal down right, 5 vertical right, 6 horizontal down, 7 vertical left, 8 horizontal up.
+/// The mode has to be allowed.
 pub fn pred4(mode: u8, nb: &Nb4) -> [u8; 16]
     requires { mode < 9 }
     ensures { result ≡ predicted4 mode nb.now }
@@ -65,8 +65,8 @@ impl Predictor for Columns<'_> {
     }
 }
 
-/// The prediction of a luma macroblock, row by row (clause 8.3.3): 0 vertical, 1 horizontal, 2 mean, 3 plane. The mode has to
-/// be allowed.
+/// The prediction of a luma macroblock, row by row (clause 8.3.3): 0 vertical, 1 horizontal, 2 mean, 3 plane. The mode
+/// has to be allowed.
 #[tactic(auto, unfolding(spec_intra::specs::Predictions::predicted16))]
 pub fn pred16(mode: u8, nb: &Nb16) -> [u8; 256]
     requires { mode < 4 }

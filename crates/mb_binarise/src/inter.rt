@@ -8,9 +8,12 @@ ghost use Rattle.spec_syntax.specs.Numbers.{prefix_string, golomb_string};
 ghost use Rattle.spec_syntax.specs.Inter.{skip_at, has_inter, first_used, second_used, use_of, block_use, sub_string, sub_type_string, sub_type_p, ref_index_string, mvd_from, mvd_at, mvd_string, sign_string};
 ghost use Rattle.enc_tables.specs.Records.{is_used};
 
-use crate::push::{BYPASS, one, push_golomb3, push_ones};
+use crate::push::{one, push_golomb3, push_ones};
 use arrayvec::ArrayVec;
-use enc_tables::{MbRecord, Motion, REF_IDX_OFFSET, SKIP_B_OFFSET, SKIP_P_OFFSET, SliceKind};
+use enc_tables::{
+    BYPASS, MVD_X_OFFSET, MVD_Y_OFFSET, MbRecord, Motion, REF_IDX_OFFSET, SKIP_B_OFFSET,
+    SKIP_P_OFFSET, SUB_TYPE_B_OFFSET, SUB_TYPE_P_OFFSET, SliceKind,
+};
 use spec_syntax::{Bin, ListUse};
 
 fn skip_context(kind: SliceKind, inc: u8) -> u16
@@ -62,37 +65,43 @@ pub(crate) fn block_use(mb: &MbRecord, block: usize) -> ListUse
 fn sub_type(lists: ListUse) -> ArrayVec<Bin, 48>
     ensures { result.items ≡ sub_type_string lists }
 {
-    let mut bins = one(36, true);
+    let mut bins = one(SUB_TYPE_B_OFFSET, true);
     match lists {
         ListUse::L0 => {
             bins.push(Bin {
-                ctx: 37,
+                ctx: SUB_TYPE_B_OFFSET + 1,
                 bit: false,
             });
             bins.push(Bin {
-                ctx: 39,
+                ctx: SUB_TYPE_B_OFFSET + 3,
                 bit: false,
             });
         }
         ListUse::L1 => {
             bins.push(Bin {
-                ctx: 37,
+                ctx: SUB_TYPE_B_OFFSET + 1,
                 bit: false,
             });
-            bins.push(Bin { ctx: 39, bit: true });
+            bins.push(Bin {
+                ctx: SUB_TYPE_B_OFFSET + 3,
+                bit: true,
+            });
         }
         ListUse::Bi => {
-            bins.push(Bin { ctx: 37, bit: true });
             bins.push(Bin {
-                ctx: 38,
+                ctx: SUB_TYPE_B_OFFSET + 1,
+                bit: true,
+            });
+            bins.push(Bin {
+                ctx: SUB_TYPE_B_OFFSET + 2,
                 bit: false,
             });
             bins.push(Bin {
-                ctx: 39,
+                ctx: SUB_TYPE_B_OFFSET + 3,
                 bit: false,
             });
             bins.push(Bin {
-                ctx: 39,
+                ctx: SUB_TYPE_B_OFFSET + 3,
                 bit: false,
             });
         }
@@ -108,7 +117,7 @@ pub fn bins_sub_type(kind: SliceKind, motion: &Motion) -> ArrayVec<Bin, 48>
 {
     match kind {
         SliceKind::B => sub_type(use_of(motion)),
-        _ => one(21, true),
+        _ => one(SUB_TYPE_P_OFFSET, true),
     }
 }
 
@@ -123,11 +132,11 @@ pub fn bins_ref(inc: u8, index: u8) -> ArrayVec<Bin, 48>
     }
     let mut bins = one(REF_IDX_OFFSET + inc as u16, true);
     bins.push(Bin {
-        ctx: 58,
+        ctx: REF_IDX_OFFSET + 4,
         bit: index > 1,
     });
     if index > 1 {
-        push_ones(&mut bins, 59, 3, index as u16 - 2);
+        push_ones(&mut bins, REF_IDX_OFFSET + 5, 3, index as u16 - 2);
     }
     bins
 }
@@ -136,7 +145,7 @@ fn mvd_context(vertical: bool, inc: u8, place: u16) -> u16
     requires { place ≤ 9 }
     ensures { result ≡ mvd_at vertical inc place }
 {
-    let from: u16 = if vertical { 47 } else { 40 };
+    let from = if vertical { MVD_Y_OFFSET } else { MVD_X_OFFSET };
     match place {
         0 => from + inc as u16,
         _ => from + (place + 2).min(6),

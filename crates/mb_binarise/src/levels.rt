@@ -1,16 +1,16 @@
-//! The elements of residual blocks. The category of a block is 0 for Intra 16x16 DC, 1 for its AC, 2 for luma 4x4, 3 for
-//! chroma DC, 4 for chroma AC and 5 for luma 8x8 (ctxBlockCat, table 9-42).
+//! The elements of residual blocks. The category of a block is 0 for Intra 16x16 DC, 1 for its AC, 2 for luma 4x4, 3
+//! for chroma DC, 4 for chroma AC and 5 for luma 8x8 (ctxBlockCat, table 9-42).
 
 ghost use Rattle.std.specs.Prelude.{◌≡◌, ℕ, ◌+◌, ◌<◌, ◌≤◌};
 ghost use Rattle.spec_syntax.specs.Syntax.{flag_string};
 ghost use Rattle.spec_syntax.specs.Levels.{coded_at, significant_at, last_at, first_at, others_at, levels_from, minus1_string, sign_at};
 
-use crate::push::{BYPASS, one, push_golomb, push_ones};
+use crate::push::{one, push_golomb, push_ones};
 use arrayvec::ArrayVec;
 use enc_tables::{
-    CODED_BY_CATEGORY, CODED_OFFSET, FLAGS_BY_CATEGORY, LAST_OFFSET, LAST8, LAST8_OFFSET,
-    LEVEL_OFFSET, LEVEL8_OFFSET, LEVELS_BY_CATEGORY, SIGNIFICANT_OFFSET, SIGNIFICANT8,
-    SIGNIFICANT8_OFFSET,
+    BYPASS, CHROMA_DC_BLOCK, CODED_BY_CATEGORY, CODED_OFFSET, FLAGS_BY_CATEGORY, LAST_OFFSET,
+    LAST8, LAST8_OFFSET, LEVEL_OFFSET, LEVEL8_OFFSET, LEVELS_BY_CATEGORY, LUMA8_BLOCK,
+    SIGNIFICANT_OFFSET, SIGNIFICANT8, SIGNIFICANT8_OFFSET,
 };
 use spec_syntax::Bin;
 
@@ -39,8 +39,10 @@ pub fn significant_context(category: u8, place: u8) -> u16
     ensures { result ≡ significant_at category place }
 {
     match category {
-        5 => SIGNIFICANT8_OFFSET + SIGNIFICANT8[place as usize] as u16,
-        3 => SIGNIFICANT_OFFSET + FLAGS_BY_CATEGORY[3] + place.min(2) as u16,
+        LUMA8_BLOCK => SIGNIFICANT8_OFFSET + SIGNIFICANT8[place as usize] as u16,
+        CHROMA_DC_BLOCK => SIGNIFICANT_OFFSET
+            + FLAGS_BY_CATEGORY[CHROMA_DC_BLOCK as usize]
+            + place.min(2) as u16,
         _ => SIGNIFICANT_OFFSET + FLAGS_BY_CATEGORY[category as usize] + place as u16,
     }
 }
@@ -62,8 +64,10 @@ pub fn last_context(category: u8, place: u8) -> u16
     ensures { result ≡ last_at category place }
 {
     match category {
-        5 => LAST8_OFFSET + LAST8[place as usize] as u16,
-        3 => LAST_OFFSET + FLAGS_BY_CATEGORY[3] + place.min(2) as u16,
+        LUMA8_BLOCK => LAST8_OFFSET + LAST8[place as usize] as u16,
+        CHROMA_DC_BLOCK => LAST_OFFSET
+            + FLAGS_BY_CATEGORY[CHROMA_DC_BLOCK as usize]
+            + place.min(2) as u16,
         _ => LAST_OFFSET + FLAGS_BY_CATEGORY[category as usize] + place as u16,
     }
 }
@@ -84,12 +88,13 @@ fn levels_context(category: u8) -> u16
     ensures most { result ≤ 426 }
 {
     match category {
-        5 => LEVEL8_OFFSET,
+        LUMA8_BLOCK => LEVEL8_OFFSET,
         _ => LEVEL_OFFSET + LEVELS_BY_CATEGORY[category as usize],
     }
 }
 
-/// The context of the first bin of coeff_abs_level_minus1, after `above_one` levels of greater size than 1 and `ones` of size 1.
+/// The context of the first bin of coeff_abs_level_minus1, after `above_one` levels of greater size than 1 and `ones`
+/// of size 1.
 #[tactic(auto, unfolding(spec_syntax::specs::Levels::first_at))]
 pub fn first_context(category: u8, above_one: u8, ones: u8) -> u16
     requires { category ≤ 5 }
@@ -110,13 +115,13 @@ pub fn others_context(category: u8, above_one: u8) -> u16
 {
     let from = levels_context(category);
     match category {
-        3 => from + 5 + (above_one as u16).min(3),
+        CHROMA_DC_BLOCK => from + 5 + (above_one as u16).min(3),
         _ => from + 5 + (above_one as u16).min(4),
     }
 }
 
-/// coeff_abs_level_minus1, a level's size less 1, after `above_one` levels of greater size than 1 and `ones` of size 1 in
-/// the block (clause 9.3.2.3).
+/// coeff_abs_level_minus1, a level's size less 1, after `above_one` levels of greater size than 1 and `ones` of size 1
+/// in the block (clause 9.3.2.3).
 #[tactic(auto, using(crate::proofs::Strings::minus1_zero, crate::proofs::Strings::minus1_small, crate::proofs::Strings::minus1_large), unfolding(spec_syntax::specs::Syntax::flag_string))]
 pub fn bins_level(category: u8, above_one: u8, ones: u8, minus1: u16) -> ArrayVec<Bin, 48>
     requires category { category ≤ 5 }

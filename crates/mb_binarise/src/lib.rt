@@ -1,4 +1,5 @@
-//! The bins of each syntax element of the macroblock layer, with their contexts (ITU-T H.264, clauses 9.3.2 and 9.3.3.1).
+//! The bins of each syntax element of the macroblock layer, with their contexts (ITU-T H.264, clauses 9.3.2 and
+//! 9.3.3.1).
 //!
 //! An increment `inc` is what the macroblocks around give (clause 9.3.3.1.1).
 #![tactic(auto)]

@@ -12,7 +12,8 @@ use crate::types::{type_in_b, type_in_p};
 use arrayvec::ArrayVec;
 use enc_tables::{
     CHROMA_MODE_OFFSET, CHROMA_PATTERN_OFFSET, LUMA_PATTERN_OFFSET, MB_TYPE_I_OFFSET,
-    MODE_REM_OFFSET, MbKind, MbRecord, QP_DELTA_OFFSET, SliceKind, TERMINATE, TRANSFORM_OFFSET,
+    MODE_FLAG_OFFSET, MODE_REM_OFFSET, MbKind, MbRecord, QP_DELTA_OFFSET, SliceKind, TERMINATE,
+    TRANSFORM_OFFSET,
 };
 use spec_syntax::Bin;
 
@@ -23,8 +24,8 @@ pub fn bins_end(last: bool) -> ArrayVec<Bin, 48>
     one(TERMINATE, last)
 }
 
-/// mb_type of a macroblock that isn't skipped. Of Intra 16x16 it tells the mode, the chroma pattern and whether the luma
-/// pattern isn't 0; in B, which lists each partition uses. In P `inc` isn't used.
+/// mb_type of a macroblock that isn't skipped. Of Intra 16x16 it tells the mode, the chroma pattern and whether the
+/// luma pattern isn't 0; in B, which lists each partition uses. In P `inc` isn't used.
 pub fn bins_type(kind: SliceKind, inc: u8, mb: &MbRecord) -> ArrayVec<Bin, 48>
     requires kind { IsTrue (occurs_in kind mb.now.kind) }
     requires range { IsIntraType (intra_type_of mb.now) }
@@ -107,7 +108,7 @@ pub fn bins_chroma_mode(inc: u8, mode: u8) -> ArrayVec<Bin, 48>
 {
     let mut bins = one(CHROMA_MODE_OFFSET + inc as u16, mode > 0);
     if mode > 0 {
-        push_ones(&mut bins, 67, 2, mode as u16 - 1);
+        push_ones(&mut bins, CHROMA_MODE_OFFSET + 3, 2, mode as u16 - 1);
     }
     bins
 }
@@ -116,7 +117,7 @@ pub fn bins_chroma_mode(inc: u8, mode: u8) -> ArrayVec<Bin, 48>
 pub fn bins_mode_flag(flag: bool) -> ArrayVec<Bin, 48>
     ensures { result.items ≡ flag_string mode_flag flag }
 {
-    one(68, flag)
+    one(MODE_FLAG_OFFSET, flag)
 }
 
 /// rem_intra4x4_pred_mode or rem_intra8x8_pred_mode: the mode among those that aren't the predicted one.
@@ -162,8 +163,8 @@ pub fn bins_luma_cbp(incs: [u8; 4], cbp: u8) -> ArrayVec<Bin, 48>
     bins
 }
 
-/// The chroma part of coded_block_pattern: 0 nothing, 1 DC levels alone, 2 AC levels too. `incs` has the increments of the
-/// first and of the second bin.
+/// The chroma part of coded_block_pattern: 0 nothing, 1 DC levels alone, 2 AC levels too. `incs` has the increments of
+/// the first and of the second bin.
 #[tactic(auto, using(crate::proofs::Strings::chroma_pattern_zero, crate::proofs::Strings::chroma_pattern_more), unfolding(spec_syntax::specs::Syntax::flag_string))]
 pub fn bins_chroma_cbp(incs: [u8; 2], cbp: u8) -> ArrayVec<Bin, 48>
     requires { cbp ≤ 2 }

@@ -6,10 +6,8 @@ ghost use Rattle.spec_syntax.specs.Syntax.{flag_string};
 ghost use Rattle.spec_syntax.specs.Numbers.{ones_string, number_string, golomb_string};
 
 use arrayvec::ArrayVec;
+use enc_tables::BYPASS;
 use spec_syntax::Bin;
-
-/// The context number of bins that are coded by bypass.
-pub(crate) const BYPASS: u16 = 1000;
 
 /// A single bin.
 #[tactic(auto, unfolding(spec_syntax::specs::Syntax::flag_string))]

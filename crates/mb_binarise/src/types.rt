@@ -12,7 +12,10 @@ ghost use Rattle.spec_syntax.specs.Inter.{occurs_in, suffix_string, PType, p_typ
 use crate::inter::block_use;
 use crate::push::{one, push_ones};
 use arrayvec::ArrayVec;
-use enc_tables::{MB_TYPE_B_OFFSET, MB_TYPE_P_OFFSET, MbKind, MbRecord, TERMINATE};
+use enc_tables::{
+    MB_TYPE_B_OFFSET, MB_TYPE_B_SUFFIX_OFFSET, MB_TYPE_P_OFFSET, MB_TYPE_P_SUFFIX_OFFSET, MbKind,
+    MbRecord, TERMINATE,
+};
 use spec_syntax::{Bin, ListUse};
 
 // ---- an intra type behind the prefix, whose contexts begin at `from`
@@ -108,7 +111,11 @@ fn push_suffix(bins: &mut ArrayVec<Bin, 48>, from: u16, mb: &MbRecord)
 fn three(second: bool, third: bool) -> ArrayVec<Bin, 48>
     ensures { result.items ≡ at 14 false ∷ at 15 second ∷ at (cond second 17 16) third ∷ [] }
 {
-    let last: u16 = if second { 17 } else { 16 };
+    let last: u16 = if second {
+        MB_TYPE_P_OFFSET + 3
+    } else {
+        MB_TYPE_P_OFFSET + 2
+    };
     let mut bins = ArrayVec::new();
     bins.push(Bin {
         ctx: MB_TYPE_P_OFFSET,
@@ -136,7 +143,7 @@ fn intra_in_p(mb: &MbRecord) -> ArrayVec<Bin, 48>
         ctx: MB_TYPE_P_OFFSET,
         bit: true,
     });
-    push_suffix(&mut bins, 17, mb);
+    push_suffix(&mut bins, MB_TYPE_P_SUFFIX_OFFSET, mb);
     bins
 }
 
@@ -168,21 +175,24 @@ fn six(inc: u8, third: bool, fourth: bool, fifth: bool, sixth: bool) -> ArrayVec
         ctx: MB_TYPE_B_OFFSET + inc as u16,
         bit: true,
     });
-    bins.push(Bin { ctx: 30, bit: true });
     bins.push(Bin {
-        ctx: 31,
+        ctx: MB_TYPE_B_OFFSET + 3,
+        bit: true,
+    });
+    bins.push(Bin {
+        ctx: MB_TYPE_B_OFFSET + 4,
         bit: third,
     });
     bins.push(Bin {
-        ctx: 32,
+        ctx: MB_TYPE_B_OFFSET + 5,
         bit: fourth,
     });
     bins.push(Bin {
-        ctx: 32,
+        ctx: MB_TYPE_B_OFFSET + 5,
         bit: fifth,
     });
     bins.push(Bin {
-        ctx: 32,
+        ctx: MB_TYPE_B_OFFSET + 5,
         bit: sixth,
     });
     bins
@@ -194,7 +204,7 @@ fn seven(inc: u8, fourth: bool, fifth: bool, sixth: bool, seventh: bool) -> Arra
 {
     let mut bins = six(inc, true, fourth, fifth, sixth);
     bins.push(Bin {
-        ctx: 32,
+        ctx: MB_TYPE_B_OFFSET + 5,
         bit: seventh,
     });
     bins
@@ -210,10 +220,13 @@ fn short(inc: u8, last: bool) -> ArrayVec<Bin, 48>
         bit: true,
     });
     bins.push(Bin {
-        ctx: 30,
+        ctx: MB_TYPE_B_OFFSET + 3,
         bit: false,
     });
-    bins.push(Bin { ctx: 32, bit: last });
+    bins.push(Bin {
+        ctx: MB_TYPE_B_OFFSET + 5,
+        bit: last,
+    });
     bins
 }
 
@@ -283,7 +296,7 @@ fn intra_in_b(inc: u8, mb: &MbRecord) -> ArrayVec<Bin, 48>
     ensures { result.items ≡ b_type_string inc (BType.Intra (intra_type_of mb.now)) }
 {
     let mut bins = six(inc, true, true, false, true);
-    push_suffix(&mut bins, 32, mb);
+    push_suffix(&mut bins, MB_TYPE_B_SUFFIX_OFFSET, mb);
     bins
 }
 

@@ -79,8 +79,9 @@ fn direct_block(first: i8, second: i8, field: &Field, near: Option<Motion>) -> M
     motion_of(first, second, field, col_zero(near))
 }
 
-/// The motion of the four 8x8 blocks of a macroblock in spatial direct mode (ITU-T H.264, clause 8.4.1.2.2). `field` has the neighbours
-/// of the macroblock, and `colocated` the motion that the blocks at the same places have in the first picture of list 1.
+/// The motion of the four 8x8 blocks of a macroblock in spatial direct mode (ITU-T H.264, clause 8.4.1.2.2). `field`
+/// has the neighbours of the macroblock, and `colocated` the motion that the blocks at the same places have in the
+/// first picture of list 1.
 pub fn direct_motion(field: &Field, colocated: &[Option<Motion>; 4]) -> [Motion; 4]
     ensures { result ≡ direct_of field.now colocated.now }
 {

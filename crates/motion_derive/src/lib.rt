@@ -1,4 +1,5 @@
-//! Motion that is derived from neighbouring blocks: vector prediction, P_Skip and spatial direct motion (ITU-T H.264, clause 8.4.1).
+//! Motion that is derived from neighbouring blocks: vector prediction, P_Skip and spatial direct motion (ITU-T H.264,
+//! clause 8.4.1).
 #![tactic(auto)]
 
 mod direct;

@@ -91,8 +91,9 @@ fn favoured(shape: u8, part: u8, field: &Field) -> Option<Motion>
     }
 }
 
-/// The prediction of the vector of a partition in a list, 0 or 1 (ITU-T H.264, clause 8.4.1.3). The shapes are 0 for 16x16, 1 for 16x8,
-/// 2 for 8x16 and 3 for 8x8; the upper and the left part are part 0. `reference` is the partition's reference in the list.
+/// The prediction of the vector of a partition in a list, 0 or 1 (ITU-T H.264, clause 8.4.1.3). The shapes are 0 for
+/// 16x16, 1 for 16x8, 2 for 8x16 and 3 for 8x8; the upper and the left part are part 0. `reference` is the partition's
+/// reference in the list.
 pub fn predict(shape: u8, part: u8, list: u8, reference: i8, field: &Field) -> Vector
     requires { list < 2 }
     ensures { result ≡ predicted shape part list reference field.now }

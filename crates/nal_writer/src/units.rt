@@ -8,7 +8,8 @@ ghost use Rattle.nal_writer.specs.Runs.{IsRun, Grows};
 
 use bit_strings::{BitBuf, Full};
 
-/// Appends a unit: a start code of three bytes, or of four where it is long, the header byte, and the payload with its 03 bytes.
+/// Appends a unit: a start code of three bytes, or of four where it is long, the header byte, and the payload with its
+/// 03 bytes.
 ///
 /// `Full` comes exactly where the unit doesn't fit; the buffer is then unchanged.
 pub fn unit(
@@ -57,7 +58,8 @@ pub fn filler(out: &mut BitBuf, bytes: u32) -> Result<(), Full>
     Ok(())
 }
 
-/// Units are read back: a stream of them, with start codes of either length, has exactly these units. A filler unit is one of them.
+/// Units are read back: a stream of them, with start codes of either length, has exactly these units. A filler unit is
+/// one of them.
 pub fn units_are_read_back()
     ensures units { (us : List (Bool × Nal)) → All (λ u. IsNal u.1) us
         → units_of (flat_map written us) ≡ Some (map (λ u. u.1) us) }

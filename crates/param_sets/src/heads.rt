@@ -4,7 +4,6 @@ ghost use Rattle.spec_bits.specs.declared.Field.TheVariants.{U, Ue};
 ghost use Rattle.spec_bits.specs.Golomb.{to_byte};
 ghost use Rattle.spec_bits.specs.Bits.{digit};
 ghost use Rattle.spec_bits.specs.Fields.{fields_bits, FieldFits};
-ghost use Rattle.spec_basics.specs.Sizes.{in_macroblocks};
 ghost use Rattle.spec_headers.specs.HeadFields.{padding, cropping_fields, usability_fields, sequence_fields, format_fields, picture_fields, place_fields, qp_field, moved_fields, list_fields, marking_fields, init_fields, slice_fields, slice_head_bits};
 ghost use Rattle.spec_headers.specs.Heads.{kind_number};
 ghost use Rattle.spec_headers.specs.Allowed.{IsSeqHead, IsSliceHead, IsTiming, HasLists};
@@ -17,6 +16,7 @@ use enc_tables::SliceKind;
 use spec_bits::Field;
 use spec_bits::Field::{Se, U, Ue};
 use spec_headers::{SeqHead, SliceHead, Timing};
+use whole_numbers::in_macroblocks;
 
 /// Appends the fields of a sequence parameter set of High profile (clause 7.3.2.1.1). The caller ends the payload
 /// with `trail`.
@@ -82,8 +82,8 @@ fn put_format(out: &mut BitBuf, head: &SeqHead) -> Result<(), Full>
     requires { IsSeqHead head.now }
     ensures { Grows out.old out.new (fields_bits (format_fields head.now)) result }
 {
-    let wide = macroblocks(head.width);
-    let high = macroblocks(head.height);
+    let wide = in_macroblocks(head.width);
+    let high = in_macroblocks(head.height);
     put_fields(
         out,
         &[
@@ -115,14 +115,26 @@ fn put_cropping(out: &mut BitBuf, width: u32, height: u32) -> Result<(), Full>
     requires height { (1 ≤ height) × (height ≤ 4096) }
     ensures { Grows out.old out.new (fields_bits (cropping_fields width height)) result }
 {
-    // frame_cropping_flag; frame_crop_left_offset, frame_crop_right_offset, frame_crop_top_offset,
-    // frame_crop_bottom_offset
     let right = padded_by(width);
     let bottom = padded_by(height);
     if is_whole(right, bottom) {
-        return put_fields(out, &[U(1, 0)]);
+        return put_fields(
+            out,
+            &[
+                U(1, 0), // frame_cropping_flag
+            ],
+        );
     }
-    put_fields(out, &[U(1, 1), Ue(0), Ue(right / 2), Ue(0), Ue(bottom / 2)])
+    put_fields(
+        out,
+        &[
+            U(1, 1), // frame_cropping_flag
+            Ue(0), // frame_crop_left_offset
+            Ue(right / 2), // frame_crop_right_offset
+            Ue(0), // frame_crop_top_offset
+            Ue(bottom / 2), // frame_crop_bottom_offset
+        ],
+    )
 }
 
 fn is_whole(right: u32, bottom: u32) -> bool
@@ -202,20 +214,12 @@ fn reorder_depth(reorder: bool) -> Field
     if reorder { Ue(1) } else { Ue(0) }
 }
 
-// How many macroblocks cover this many samples.
-fn macroblocks(samples: u32) -> u32
-    requires { samples ≤ 4096 }
-    ensures { result ≡ in_macroblocks samples }
-{
-    (samples + 15) / 16
-}
-
 // How many samples are added to a side so that macroblocks cover it.
 fn padded_by(samples: u32) -> u32
     requires { samples ≤ 4096 }
     ensures { result ≡ padding samples }
 {
-    16 * macroblocks(samples) - samples
+    16 * in_macroblocks(samples) - samples
 }
 
 #[tactic(auto, unfolding(spec_headers::specs::HeadFields::picture_fields))]

@@ -1,9 +1,10 @@
 // Which neighbours macroblocks and blocks have.
 ghost use Rattle.std.specs.Prelude.{◌≡◌, ◌≤◌, ◌<◌, ◌+◌, ◌-◌, ◌*◌, ◌/◌, ◌%◌, ◌&&◌, ◌||◌, nat_lt, cond, ℕ};
 ghost use Rattle.spec_intra.specs.Near.{macroblock_avail, block_avail};
-ghost use Rattle.spec_basics.specs.Blocks.{block_number};
+ghost use Rattle.spec_basics.specs.Blocks.{block_number as block_number_of};
 
 use spec_intra::Avail;
+use whole_numbers::block_number;
 
 /// Which neighbours the macroblock in this column and row has (clauses 6.4.8 and 6.4.9). A picture has `width`
 /// macroblocks in a row, and the slice begins with row `first_row`.
@@ -66,27 +67,18 @@ fn above_right(n: u32, mb: &Avail, column: u32, row: u32) -> bool
     requires column { column < n }
     requires row { row < n }
     ensures { result ≡ cond (nat_lt 0 row)
-        (nat_lt (column + 1) n && nat_lt (block_number (column + 1) (row - 1)) (block_number column row))
+        (nat_lt (column + 1) n && nat_lt (block_number_of (column + 1) (row - 1)) (block_number_of column row))
         (cond (nat_lt (column + 1) n) mb.now.above mb.now.above_right) }
 {
     let more = column + 1 < n;
     if row > 0 {
-        more && number(column + 1, row - 1) < number(column, row)
+        let here = block_number(column as usize, row as usize);
+        more && block_number(column as usize + 1, row as usize - 1) < here
     } else if more {
         mb.above
     } else {
         mb.above_right
     }
-}
-
-// The number of the block in this column and row, in decoding order.
-#[inline(always)]
-fn number(column: u32, row: u32) -> u32
-    requires column { column ≤ 4 }
-    requires row { row ≤ 4 }
-    ensures { result ≡ block_number column row }
-{
-    8 * (row / 2) + 4 * (column / 2) + 2 * (row % 2) + column % 2
 }
 
 /// Which neighbours a macroblock's 4x4 block in this column and row has (clause 6.4.11.4), where `mb` are the

@@ -1,5 +1,5 @@
-//! A desk hands the rows below a number out to any number of threads, each row once, and adds up a number that they tally. Its two words
-//! are shared: the number of draws, and the total. What a thread knows of them is in its seat.
+//! A desk hands the rows below a number out to any number of threads, each row once, and adds up a number that they
+//! tally. Its two words are shared: the number of draws, and the total. What a thread knows of them is in its seat.
 #![tactic(auto)]
 
 ghost use Rattle.std.specs.Prelude.{◌≡◌, ◌<◌, ◌≤◌, ◌+◌, ◌^◌, ◌++◌, [], ◌∷◌, true, length, IfOk, IfSome, IfNone};
@@ -55,8 +55,8 @@ impl Desk {
         Ok((Desk { table, rows }, Seat { inner }))
     }
 
-    /// The next row that no seat has drawn, or None where all are drawn. A seat that has drawn None doesn't draw again, unless it has taken
-    /// in a seat that hasn't.
+    /// The next row that no seat has drawn, or None where all are drawn. A seat that has drawn None doesn't draw again,
+    /// unless it has taken in a seat that hasn't.
     pub fn draw(&self, seat: Seat) -> (Option<u32>, Seat)
         requires own { IsOf self.now seat }
         requires live { (view_of seat).nones < (view_of seat).seats }
@@ -114,8 +114,8 @@ impl Desk {
         Seat { inner }
     }
 
-    /// How many rows were drawn, and the total. Where all seats are in the one that closes, these are its own, and its rows are those below
-    /// `drawn`, each once; otherwise it has at most as many.
+    /// How many rows were drawn, and the total. Where all seats are in the one that closes, these are its own, and its
+    /// rows are those below `drawn`, each once; otherwise it has at most as many.
     pub fn close(self, seat: Seat) -> Closed
         requires own { IsOf self seat }
         ensures all { ClosesAll (rows_of self) (view_of seat) result }
@@ -136,8 +136,8 @@ impl Desk {
     }
 }
 
-/// The rule of a desk holds after any list of draws, tallies, splits and merges by any number of seats: the rows that were handed out are
-/// those below a number, each once, and the total is the sum of all tallies.
+/// The rule of a desk holds after any list of draws, tallies, splits and merges by any number of seats: the rows that
+/// were handed out are those below a number, each once, and the total is the sum of all tallies.
 pub fn rule_of_desks()
     ensures { RuleHolds }
 {}

@@ -1,5 +1,5 @@
-//! The coded picture buffer of a receiver at a constant rate, and the ledger of an encoder that keeps it, as definitions in whole numbers
-//! (ITU-T H.264, Annex C), with the laws that join them.
+//! The coded picture buffer of a receiver at a constant rate, and the ledger of an encoder that keeps it, as
+//! definitions in whole numbers (ITU-T H.264, Annex C), with the laws that join them.
 #![tactic(auto)]
 
 ghost use Rattle.std.specs.Prelude.{ℕ, List, ◌≡◌, ◌≤◌, ◌+◌, ◌*◌};
@@ -8,12 +8,14 @@ ghost use Rattle.spec_buffer.specs.Ledger.{Ledger, fresh, Keeps, available, fill
 
 use enc_tables::SliceKind;
 
-/// The buffer neither underflows nor overflows where each unit has at most the bits that are there, and the filler that the ledger asks for.
+/// The buffer neither underflows nor overflows where each unit has at most the bits that are there, and the filler that
+/// the ledger asks for.
 pub fn ledgers_keep_the_buffer()
     ensures { (t : Rate) (qp : ℕ) (units : List (ℕ × ℕ)) → IsRate t → Spends t (fresh qp) units → BufferHolds t (sizes_of units) }
 {}
 
-/// So it goes unit by unit: what holds between two units holds at the start, and behind each unit that the ledger allows.
+/// So it goes unit by unit: what holds between two units holds at the start, and behind each unit that the ledger
+/// allows.
 pub fn units_keep_the_ledger()
     ensures start { (t : Rate) (qp : ℕ) → IsRate t → Keeps t (fresh qp) }
     ensures step { (t : Rate) (l : Ledger) (bits : ℕ) → IsRate t → Keeps t l → bits ≤ available t l → Keeps t (spent t l bits (filler_bytes t l bits)) }
@@ -26,8 +28,8 @@ pub fn available_is_there()
     ensures buffer { (t : Rate) (l : Ledger) → 1 ≤ t.num → Keeps t l → available t l ≤ t.cpb }
 {}
 
-/// The filler that the ledger asks for is the least that keeps the buffer from being over its size: none, or a unit of 5 bytes or more.
-/// There is always room for it.
+/// The filler that the ledger asks for is the least that keeps the buffer from being over its size: none, or a unit of
+/// 5 bytes or more. There is always room for it.
 pub fn fillers_are_least()
     ensures fits { (t : Rate) (l : Ledger) (bits : ℕ) → IsRate t → Keeps t l → bits ≤ available t l → bits + 8 * filler_bytes t l bits ≤ available t l }
     ensures least { (t : Rate) (l : Ledger) (bits : ℕ) → 1 ≤ t.num → IsLeastFiller t l bits (filler_bytes t l bits) }

@@ -1,8 +1,7 @@
 -- ctxIdxInc by the neighbouring macroblocks A, at the left, and B, above (ITU-T H.264, clause 9.3.3.1.1). Each `.._flag` is condTermFlagN.
-use Rattle.std.specs.Prelude.{ℕ, zero, suc, ◌+◌, ◌*◌, ◌/◌, ◌%◌, ◌^◌, ◌==◌, Bool, true, false, not, ◌&&◌, ◌||◌, nat_lt, nat_le, Option, Some, None, if◌then◌else◌, ℤ, pos, negsuc, nat_abs, List, [], ◌∷◌, slice_index_or, slice_range}
+use Rattle.std.specs.Prelude.{ℕ, zero, suc, ◌+◌, ◌*◌, ◌/◌, ◌%◌, ◌^◌, ◌==◌, Bool, true, false, not, ◌&&◌, ◌||◌, nat_lt, nat_le, Option, Some, None, if◌then◌else◌, ℤ, pos, negsuc, nat_abs, List, slice_index_or, slice_range}
 use Rattle.std.specs.List.{list_any}
 use Rattle.enc_tables.specs.declared.records.MbRecord.{MbRecord}
-use Rattle.enc_tables.specs.declared.records.Motion.{Motion}
 use Rattle.enc_tables.specs.declared.records.Vector.{Vector}
 use Rattle.enc_tables.specs.Records.{zero_vector, no_motion, is_used}
 use Rattle.enc_tables.specs.Kinds.{is_pcm, is_nxn, is_16x16, is_intra, is_skipped, is_direct, has_motion}

@@ -42,7 +42,8 @@ no_state = record { state = 0; mps = false }
 abbrev pub AllKnown : List CtxState → Type 0
 AllKnown states = (c : ℕ) → (slice_index_or states c no_state).state ≤ 63
 
--- the contexts that frames use: those of slices of each kind, and those of P and B slices alone
+-- the contexts that frames use: those of slices of each kind, and those of P and B slices alone. By table 9-34, 70 to 72 are of
+-- mb_field_decoding_flag, 276 is without a state, and 277 to 398 are of the significance maps of fields
 abbrev pub InEachSlice : ℕ → Type 0
 InEachSlice c = (c ≤ 10) ⊎ ((60 ≤ c) × (c ≤ 69)) ⊎ ((73 ≤ c) × (c ≤ 275)) ⊎ ((399 ≤ c) × (c ≤ 435))
 

@@ -1,5 +1,5 @@
 -- Pictures of I_PCM macroblocks stay as they are: their quantisation parameter counts 0, and so is every threshold.
-use Rattle.std.proofs.Common.{◌≡◌, ◌<◌, ◌+◌, ◌-◌, ◌*◌, ◌/◌, ◌%◌, ◌==◌, ◌&&◌, ◌||◌, not, ℕ, zero, suc, Bool, true, false, cond, nat_lt, List, [], ◌∷◌, length, get_or, slice_index, slice_index_or, refl, sym, ap, ap₂, ◌∙◌, arith, ℤ, le-ltb, All, inl, inr}
+use Rattle.std.proofs.Common.{◌≡◌, ◌+◌, ◌-◌, ◌*◌, ◌/◌, ◌%◌, ◌==◌, ◌&&◌, ℕ, Bool, true, false, cond, nat_lt, List, length, refl, sym, ap, ap₂, ◌∙◌, arith, ℤ, le-ltb, All, inl, inr}
 use Rattle.std.specs.Int.{abs_diff}
 use Rattle.std.proofs.lemmas.Bool.{cases_lt}
 use Rattle.std.proofs.lemmas.List.Elements.{All-get_or}

@@ -1,6 +1,6 @@
 -- The filter over whole pictures (ITU-T H.264, clause 8.7): macroblock after macroblock in the order of their addresses, across slices;
 -- luma and chroma each for itself.
-use Rattle.std.specs.Prelude.{ℕ, ◌-◌, ◌/◌, ◌%◌, List, [], length, slice_index_or, ℤ}
+use Rattle.std.specs.Prelude.{ℕ, ◌-◌, ◌/◌, ◌%◌, List, length, slice_index_or, ℤ}
 use Rattle.enc_tables.specs.Records.{no_record}
 use Rattle.enc_tables.specs.Steps.{steps}
 use Rattle.enc_tables.specs.declared.records.MbRecord.{MbRecord}

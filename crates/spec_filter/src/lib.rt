@@ -1,5 +1,5 @@
-//! The deblocking filter as definitions (ITU-T H.264, clause 8.7): how strongly each edge is filtered, what becomes of a line of samples
-//! across it, and in which order a picture's edges are taken.
+//! The deblocking filter as definitions (ITU-T H.264, clause 8.7): how strongly each edge is filtered, what becomes of
+//! a line of samples across it, and in which order a picture's edges are taken.
 #![tactic(auto)]
 
 ghost use Rattle.std.specs.Prelude.{◌≡◌, ℕ, ℤ, List, true};
@@ -9,8 +9,8 @@ ghost use Rattle.enc_tables.specs.Kinds.{is_pcm};
 ghost use Rattle.spec_film.specs.Films.{Planes};
 ghost use Rattle.spec_filter.specs.Pictures.{picture_filtered};
 
-/// The samples of a line across an edge: `p0` and `q0` meet at the edge, and the others stand behind them, farther and farther
-/// away.
+/// The samples of a line across an edge: `p0` and `q0` meet at the edge, and the others stand behind them, farther and
+/// farther away.
 #[derive(Clone, Copy)]
 pub struct SampleLine {
     pub p3: u8,
@@ -47,7 +47,8 @@ pub struct Layout {
     pub stride: usize,
 }
 
-/// The rounded averages of the quantisation parameters at both sides of an edge (indexA and indexB, since the filter's offsets are 0).
+/// The rounded averages of the quantisation parameters at both sides of an edge (indexA and indexB, since the filter's
+/// offsets are 0).
 #[derive(Clone, Copy)]
 pub struct EdgeIndices {
     /// Of the left edge of the macroblock.

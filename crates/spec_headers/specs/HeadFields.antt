@@ -1,5 +1,5 @@
 -- The fields of parameter sets and slice headers, in the order of the syntax tables.
-use Rattle.std.specs.Prelude.{ℕ, ◌+◌, ◌-◌, ◌*◌, ◌/◌, ◌==◌, ◌&&◌, Bool, true, false, List, [], ◌∷◌, ◌++◌, length, Option, Some, None, pos, ◌-ℤ◌, replicate, if◌then◌else◌}
+use Rattle.std.specs.Prelude.{ℕ, ◌-◌, ◌*◌, ◌/◌, ◌==◌, ◌&&◌, Bool, true, false, List, [], ◌∷◌, ◌++◌, length, Option, Some, None, pos, ◌-ℤ◌, replicate, if◌then◌else◌}
 use Rattle.spec_basics.specs.Sizes.{in_macroblocks}
 use Rattle.spec_bits.specs.declared.fields.Field.{Field}
 use Rattle.spec_bits.specs.declared.fields.Field.TheVariants.{U, Ue, Se}

@@ -6,7 +6,7 @@ use Rattle.spec_inter.specs.declared.Position.{Position}
 use Rattle.spec_inter.specs.declared.Position.TheVariants.{Here, Right, Below, Across, AcrossBelow, Down, DownRight, Middle}
 use Rattle.spec_inter.specs.Taps.{tap, half, mean}
 use Rattle.spec_inter.specs.Places.{whole, fraction}
-use Rattle.spec_inter.specs.Luma.{about, position_of, first_of, second_of, quarter_of, moved_luma}
+use Rattle.spec_inter.specs.Luma.{about, position_of, first_of, second_of, moved_luma}
 use Rattle.spec_inter.specs.Halves.{kept_at, kept_luma, halves_of}
 
 back : (x : ℤ) → x ≡ x -ℤ pos 2 +ℤ pos 2

@@ -1,5 +1,6 @@
-//! What the encoder plans for macroblocks of P and B slices, as definitions: the motion of least cost of each of nine partitions, and how
-//! many vectors are compared; with the laws that a search can find nothing else, and that vectors stay near their windows.
+//! What the encoder plans for macroblocks of P and B slices, as definitions: the motion of least cost of each of nine
+//! partitions, and how many vectors are compared; with the laws that a search can find nothing else, and that vectors
+//! stay near their windows.
 #![tactic(auto)]
 
 ghost use Rattle.std.specs.Prelude.{◌≡◌, ℕ, ◌+◌, ◌*◌, ℤ};
@@ -25,8 +26,8 @@ pub fn refinements_have_one_result()
     ensures only { (cost : Vector → ℕ) (dx dy : ℤ) (best : Vector) (size : ℕ) → IsRefined cost dx dy best size → refined cost (in_quarters dx dy) ≡ record { vector = best; size = size } }
 {}
 
-/// What a search and its refinement find for a block in a reference is the plan's: its cost is that of its vector, and no vector of it is
-/// longer than the window's with three quarter samples more.
+/// What a search and its refinement find for a block in a reference is the plan's: its cost is that of its vector, and
+/// no vector of it is longer than the window's with three quarter samples more.
 pub fn searches_find_the_plan()
     ensures only { (s : Search) (block : Block) (p : Planes) (dx dy : ℤ) (least : ℕ) (v : Vector) (size : ℕ) → IsWindowBest (cost_of (own_luma s) (luma_of s p) block) s.range dx dy least
         → IsRefined (λ w. difference_of s block (moved_sample s block p w)) dx dy v size → found s block p ≡ record { vector = v; size = size } }
@@ -34,8 +35,8 @@ pub fn searches_find_the_plan()
     ensures near { (s : Search) (block : Block) (p : Planes) → Small (4 * s.range + 3) (found s block p).vector }
 {}
 
-/// The vectors that are compared for a macroblock are those that one search of all nine partitions compares in each picture of both lists,
-/// added up.
+/// The vectors that are compared for a macroblock are those that one search of all nine partitions compares in each
+/// picture of both lists, added up.
 pub fn comparisons_add_up()
     ensures { (s : Search) (x : ℕ) (y : ℕ) → parts_compared s x y ≡ sum_by (nine_compared s x y) s.sources.list0 + sum_by (nine_compared s x y) s.sources.list1 }
 {}

@@ -1,5 +1,5 @@
-//! Laws on the macroblocks that the encoder codes in I, P and B slices: their records are records of the syntax, with the motion that a
-//! decoder derives, and their vectors and vector differences stay small.
+//! Laws on the macroblocks that the encoder codes in I, P and B slices: their records are records of the syntax, with
+//! the motion that a decoder derives, and their vectors and vector differences stay small.
 #![tactic(auto)]
 
 ghost use Rattle.std.specs.Prelude.{◌≡◌, ℕ, ◌+◌, ◌<◌, true, List, [], length, get_or, ℤ};
@@ -34,8 +34,9 @@ pub fn predictions_fit()
     ensures { (wide : ℕ) (s : Sources) (site : Site) (mb : MbRecord) → SourcesFit s → PlanesFit (predicted_planes wide s site mb) }
 {}
 
-/// The record of an inter macroblock, with the levels of any source over any prediction, is one that the syntax can give, and has the motion
-/// that a decoder derives: of planned partitions; of skipped macroblocks where they leave no level; and of direct ones.
+/// The record of an inter macroblock, with the levels of any source over any prediction, is one that the syntax can
+/// give, and has the motion that a decoder derives: of planned partitions; of skipped macroblocks where they leave no
+/// level; and of direct ones.
 pub fn inter_records_belong()
     ensures partitions { (view : View) (wide : ℕ) (site : Site) (kind : MbKind) (plan : MbPlan) (source prediction : Planes) → Stands view.near site → has_motion kind ≡ true → is_in view.near.kind kind ≡ true → PlanesFit source → PlanesFit prediction
         → ViewSmall 131 view → PartsChosen view.near.kind view.near.refs0 view.near.refs1 131 plan → Belongs view (levelled wide site view.near.t8x8 source prediction (planned view plan kind site.qp)) }
@@ -47,14 +48,16 @@ pub fn inter_records_belong()
         → Belongs view (levelled wide site view.near.t8x8 source prediction (moving MbKind.BDirect site.qp (direct_motion view))) }
 {}
 
-/// Where a partition's vector and those of the blocks around are at most so long, its written difference is at most twice as long.
+/// Where a partition's vector and those of the blocks around are at most so long, its written difference is at most
+/// twice as long.
 pub fn differences_stay_small()
     ensures first { (most : ℕ) (view : View) (motion : List Motion) (r : ℕ → ℤ) (v : ℕ → Vector) → ViewSmall most view → AllSmall most motion → (shape part : ℕ) → shape < 4 → part < part_count shape → Small most (v part) → Small (most + most) (coded_difference view shape motion 0 r v part) }
     ensures second { (most : ℕ) (view : View) (motion : List Motion) (r : ℕ → ℤ) (v : ℕ → Vector) → ViewSmall most view → AllSmall most motion → (shape part : ℕ) → shape < 4 → part < part_count shape → Small most (v part) → Small (most + most) (coded_difference view shape motion 1 r v part) }
 {}
 
-/// The records of a coded slice of any type are records that the syntax can give, each behind those before it, with modes whose samples are
-/// available and the motion that a decoder derives; and no vector is longer than 131 quarter samples, also where it isn't written.
+/// The records of a coded slice of any type are records that the syntax can give, each behind those before it, with
+/// modes whose samples are available and the motion that a decoder derives; and no vector is longer than 131 quarter
+/// samples, also where it isn't written.
 pub fn coded_slices_are_records()
     ensures records { (f : Format) (h : SliceHead) (t : Task) (p : Planes) (n : ℕ) → t.facts ≡ facts_of f h → TaskFits t → PlanesFit p → AreRecords f t.colocated h [] (task_records t p n) }
     ensures vectors { (f : Format) (h : SliceHead) (t : Task) (p : Planes) (n : ℕ) → t.facts ≡ facts_of f h → TaskFits t → PlanesFit p → (i : ℕ) → i < length (task_records t p n) → AllSmall 131 (get_or (task_records t p n) i no_record).motion }

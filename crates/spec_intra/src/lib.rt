@@ -1,5 +1,5 @@
-//! Intra prediction, as definitions: the formulas of every mode, which modes are allowed, and which neighbours a block has;
-//! and the types that they speak of.
+//! Intra prediction, as definitions: the formulas of every mode, which modes are allowed, and which neighbours a block
+//! has; and the types that they speak of.
 #![tactic(auto)]
 
 /// Which neighbours of a block may be used for intra prediction (ITU-T H.264, clause 6.4.11).

@@ -1,5 +1,5 @@
-//! Macroblocks of I, P and B slices, as definitions: the reader of a macroblock's syntax, the bins of a macroblock, and the law that
-//! the bins are read back (ITU-T H.264, clause 7.3.5).
+//! Macroblocks of I, P and B slices, as definitions: the reader of a macroblock's syntax, the bins of a macroblock, and
+//! the law that the bins are read back (ITU-T H.264, clause 7.3.5).
 #![tactic(auto)]
 
 ghost use Rattle.std.specs.Prelude.{◌≡◌, ℕ, Bool, List, [], ◌∷◌, ◌++◌};
@@ -12,8 +12,8 @@ ghost use Rattle.spec_macroblock.specs.Strings.{macroblock_string};
 ghost use Rattle.spec_partitions.specs.Records.{HasMotion};
 ghost use Rattle.spec_macroblock.specs.Records.{IsRecord};
 
-/// The bins of every macroblock of an I, P or B slice that isn't I_PCM are read back by the macroblock's syntax as exactly its record,
-/// whatever macroblocks are around it.
+/// The bins of every macroblock of an I, P or B slice that isn't I_PCM are read back by the macroblock's syntax as
+/// exactly its record, whatever macroblocks are around it.
 pub fn macroblocks_are_read_back()
     ensures { (view : View) (mb : MbRecord) → IsRecord view.near mb → HasMotion view mb → Reads (macroblock view) (macroblock_string view.near mb) mb }
 {}

@@ -6,7 +6,6 @@ use Rattle.std.proofs.lemmas.List.{length-drop}
 use Rattle.spec_residual.specs.declared.BlockKind.TheVariants.{Luma4, LumaDc, Chroma4}
 use Rattle.spec_basics.specs.Bounds.{Within}
 use Rattle.spec_residual.specs.Blocks.{item}
-use Rattle.spec_residual.specs.Levels.{levels4_of}
 use Rattle.spec_reconstruction.specs.declared.Site.{Site}
 use Rattle.spec_reconstruction.specs.Residuals.{differences, spectrum4, spectrum8, luma_levels4, luma_levels8, levels_without_dc}
 use Rattle.spec_reconstruction.specs.InOrder.{levels_in_order}

@@ -1,7 +1,7 @@
 -- Worked lines, as another encoder writes them.
 use Rattle.std.proofs.Common.{◌≡◌, true, false, codes, refl}
 use Rattle.std.specs.Fmt.{digits}
-use Rattle.enc_tables.specs.declared.records.SliceKind.TheVariants.{I, P, B}
+use Rattle.enc_tables.specs.declared.records.SliceKind.TheVariants.{I, P}
 use Rattle.spec_report.specs.Lines.{head_line, picture_line, totals_line}
 
 head : head_line (record { rate = 64000; cpb = 3200; delay = 2250; level = 10; slices = 1 }) ≡ codes "rate 64000 cpb 3200 delay 2250 level 10 slices 1\n"

@@ -1,5 +1,5 @@
 -- The refinement of a vector to quarter samples: two rounds of nine.
-use Rattle.std.specs.Prelude.{ℕ, ℤ, pos, if◌then◌else◌, nat_eq, nat_lt, ◌+◌, ◌-◌, ◌*◌, ◌/◌, ◌%◌, ◌≡◌, ◌+ℤ◌, ◌-ℤ◌, ◌*ℤ◌}
+use Rattle.std.specs.Prelude.{ℕ, ℤ, pos, if◌then◌else◌, nat_eq, nat_lt, ◌-◌, ◌*◌, ◌/◌, ◌%◌, ◌≡◌, ◌+ℤ◌, ◌-ℤ◌, ◌*ℤ◌}
 use Rattle.enc_tables.specs.declared.records.Vector.{Vector}
 use Rattle.spec_search.specs.Least.{IsFirstLeast}
 

@@ -1,6 +1,6 @@
-//! The data of slices in arithmetic code (ITU-T H.264, clauses 7.3.4 and 9.3), whatever their macroblocks are: bins as requests to the
-//! arithmetic decoder, whose states follow the bins, macroblocks one after another with end_of_slice_flag behind each, and the laws that
-//! a slice's code is read back.
+//! The data of slices in arithmetic code (ITU-T H.264, clauses 7.3.4 and 9.3), whatever their macroblocks are: bins as
+//! requests to the arithmetic decoder, whose states follow the bins, macroblocks one after another with
+//! end_of_slice_flag behind each, and the laws that a slice's code is read back.
 #![tactic(auto)]
 
 ghost use Rattle.std.specs.Prelude.{◌≡◌, ℕ, ◌+◌, ◌≤◌, ◌<◌, Bool, List, [], ◌∷◌, ◌++◌, length, get_or, take, Some};
@@ -12,9 +12,10 @@ ghost use Rattle.spec_slice_data.specs.Coding.{GoesOn, asked, slice_string, slic
 ghost use Rattle.spec_slice_data.specs.Decoding.{after_all};
 ghost use Rattle.spec_slice_data.specs.Slice.{slice_data};
 
-/// Where each macroblock's reader reads its string back, the reader of a slice's data reads the slice's string back, over bins; and so does
-/// the arithmetic decoder from the slice's code: it gives exactly the macroblocks, and has taken exactly the code's bits, whatever follows
-/// them. The code's last bit is 1. `n` is how many macroblocks the slice has at most.
+/// Where each macroblock's reader reads its string back, the reader of a slice's data reads the slice's string back,
+/// over bins; and so does the arithmetic decoder from the slice's code: it gives exactly the macroblocks, and has taken
+/// exactly the code's bits, whatever follows them. The code's last bit is 1. `n` is how many macroblocks the slice has
+/// at most.
 pub fn slices_are_read_back<R>()
     ensures bins { (mb : List R → Syntax R) (string : List R → R → List Bin) (n : ℕ) (records : List R) → length records ≤ n → AreWritten mb string records → Reads (slice_data mb n []) (slice_string string records) records }
     ensures code { (mb : List R → Syntax R) (string : List R → R → List Bin) (n : ℕ) (states : List CtxState) (records : List R) (rest : List Bool) → length records ≤ n → AreWritten mb string records → IsReadBack mb string n states records rest }

@@ -1,4 +1,6 @@
--- The elements of the macroblock layer in I slices: the bits of each value (ITU-T H.264, clause 9.3.2), and the context of each bin by the bins before it (clause 9.3.3.1, table 9-39). An increment inc is what the macroblocks around say (clause 9.3.3.1.1).
+-- The elements of the macroblock layer in I slices: the bits of each value (ITU-T H.264, clause 9.3.2), and the context of each bin by the
+-- bins before it: ctxIdxOffset and ctxIdxInc (clause 9.3.3.1, tables 9-34, 9-39 and 9-41). An increment inc is what the macroblocks around
+-- say (clause 9.3.3.1.1).
 use Rattle.std.specs.Prelude.{ℕ, zero, suc, ◌+◌, ◌*◌, ◌/◌, ◌%◌, ◌<◌, ◌==◌, Bool, true, false, not, cond, List, [], ◌∷◌, ◌++◌, Option, Some, None, get_or, length, nat_abs, ◌≤◌, ℤ, pos, negsuc}
 use Rattle.enc_tables.specs.Kinds.{is_16x16, is_pcm}
 use Rattle.enc_tables.specs.declared.records.MbRecord.{MbRecord}

@@ -1,4 +1,5 @@
--- The elements of the macroblock layer that P and B slices add: the bits of each value (ITU-T H.264, clause 9.3.2), and the context of each bin (clause 9.3.3.1, table 9-39).
+-- The elements of the macroblock layer that P and B slices add: the bits of each value (ITU-T H.264, clause 9.3.2), and the context of
+-- each bin: ctxIdxOffset and ctxIdxInc (clause 9.3.3.1, tables 9-34, 9-39 and 9-41).
 use Rattle.std.specs.Prelude.{ℕ, zero, suc, ◌+◌, ◌-◌, ◌≤◌, ◌^◌, ◌==◌, Bool, true, false, cond, nat_lt, min, ◌||◌, List, [], ◌∷◌, ◌++◌, map, get_or, nat_abs, ℤ, pos, negsuc}
 use Rattle.enc_tables.specs.Kinds.{is_intra}
 use Rattle.enc_tables.specs.Records.{is_used, no_motion}
@@ -72,10 +73,10 @@ IsPType (PType.Intra t) = IsIntraType t
 IsPType _ = Unit {0}
 
 abbrev pub p_bits : PType → List Bool
-p_bits PType.One = text 3 0
-p_bits PType.Rows = text 3 11
-p_bits PType.Columns = text 3 10
-p_bits PType.Four = text 3 1
+p_bits PType.One = text 3 000
+p_bits PType.Rows = text 3 011
+p_bits PType.Columns = text 3 010
+p_bits PType.Four = text 3 001
 p_bits (PType.Intra t) = true ∷ type_bits t
 
 abbrev pub p_at : List Bool → ℕ

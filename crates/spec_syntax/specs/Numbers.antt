@@ -21,7 +21,7 @@ abbrev pub low_first : ℕ → ℕ → List Bool
 low_first zero v = []
 low_first (suc n) v = (v % 2 == 1) ∷ low_first n (v / 2)
 
--- bits as they are written in a table: so many digits, each 0 or 1
+-- bits as they are written in a table: so many decimal digits, each 0 or 1, as text 3 011 for 011
 abbrev pub text : ℕ → ℕ → List Bool
 text zero v = []
 text (suc n) v = (v / 10 ^ n % 10 == 1) ∷ text n v

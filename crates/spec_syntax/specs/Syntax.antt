@@ -2,7 +2,8 @@
 use Rattle.std.specs.Prelude.{◌≡◌, ℕ, Bool, List, [], ◌∷◌, ◌++◌, Option, Some, None, option_map}
 use Rattle.spec_syntax.specs.declared.Bin.{Bin}
 
--- the value is known; there is none; a bin of this context is asked for; the samples of an I_PCM macroblock are
+-- the value is known; there is none; a bin of this context is asked for, by the numbers of `Bin`: 276 before termination, 1000 by bypass;
+-- the samples of an I_PCM macroblock are
 pub data Syntax (A : Type 0) : Type 0 where
   done : A → Syntax A
   nothing : Syntax A

@@ -1,5 +1,5 @@
-//! The syntax elements of ITU-T H.264 in arithmetic code: their bin strings (clause 9.3.2) with the contexts of the bins
-//! (clause 9.3.3.1), the readers that ask for the bins, and the laws that these read the strings back.
+//! The syntax elements of ITU-T H.264 in arithmetic code: their bin strings (clause 9.3.2) with the contexts of the
+//! bins (clause 9.3.3.1), the readers that ask for the bins, and the laws that these read the strings back.
 #![tactic(auto)]
 
 ghost use Rattle.std.specs.Prelude.{◌≡◌, ℕ, ◌<◌, ◌≤◌, ◌+◌, Bool, List, ℤ, length, map, IsFalse};
@@ -32,8 +32,8 @@ pub enum ListUse {
     Bi,
 }
 
-/// A reader that reads a string asks for exactly its contexts, gives the value and leaves what follows, whatever that is. So no
-/// string that a reader reads begins another one that it reads, and an element's bins need no other end.
+/// A reader that reads a string asks for exactly its contexts, gives the value and leaves what follows, whatever that
+/// is. So no string that a reader reads begins another one that it reads, and an element's bins need no other end.
 pub fn readings_end<V>()
     ensures ahead { (s : Syntax V) (bins : List Bin) (v : V) → Reads s bins v → ReadsAhead s bins v }
     ensures alone { (s : Syntax V) → StandsAlone s }
@@ -60,15 +60,15 @@ pub fn inter_strings_are_read_back()
     ensures mvd { (vertical : Bool) (inc : ℕ) (d : ℤ) → IsDifference d → Reads (mvd vertical inc) (mvd_string vertical inc d) d }
 {}
 
-/// The levels of a residual block are read back from their string: of a block with a coded flag, and of one that is known to
-/// have a level.
+/// The levels of a residual block are read back from their string: of a block with a coded flag, and of one that is
+/// known to have a level.
 pub fn blocks_are_read_back()
     ensures coded { (category : ℕ) (inc : ℕ) (n : ℕ) (levels : List ℤ) → length levels ≡ n + 1 → AllByRecursion IsLevel levels → Reads (block category inc n) (block_string category inc n levels) levels }
     ensures some { (category : ℕ) (n : ℕ) (levels : List ℤ) → length levels ≡ n + 1 → IsFalse (none (map nonzero levels)) → AllByRecursion IsLevel levels → Reads (some_levels category n) (some_levels_string category n levels) levels }
 {}
 
-/// Whatever bins are read, a level is at most 8191 in size, and a vector difference at most 2^15: of a greater one the readers give
-/// nothing.
+/// Whatever bins are read, a level is at most 8191 in size, and a vector difference at most 2^15: of a greater one the
+/// readers give nothing.
 pub fn readings_are_in_range()
     ensures level { (first : ℕ) (others : ℕ) (bins : List Bin) (m : ℕ) → Reads (minus1 first others) bins m → m ≤ 8190 }
     ensures coded { (category : ℕ) (inc : ℕ) (n : ℕ) (bins : List Bin) (levels : List ℤ) → Reads (block category inc n) bins levels → AllByRecursion IsLevel levels }

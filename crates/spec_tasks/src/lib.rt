@@ -1,6 +1,6 @@
-//! What slices of P and B pictures are coded from, as definitions: how many entries lists have, which reference is moved to the front, and
-//! the plans and facts that a slice's records are made from; with the law that these fit, so that the slice's records are records of the
-//! syntax.
+//! What slices of P and B pictures are coded from, as definitions: how many entries lists have, which reference is
+//! moved to the front, and the plans and facts that a slice's records are made from; with the law that these fit, so
+//! that the slice's records are records of the syntax.
 #![tactic(auto)]
 
 ghost use Rattle.std.specs.Prelude.{◌≡◌, ◌<◌, ◌^◌, ℕ, List, []};
@@ -25,8 +25,8 @@ pub fn slices_are_coded_as_read()
     ensures { (f : Format) (h : SliceHead) (lists : Lists) (source : Planes) (plan : ℕ → MbPlan) (before : List MbRecord) → (let t = task_by f h lists source plan in view_in t.facts t.colocated before) ≡ view_of f (colocated_at lists) h before }
 {}
 
-/// Where the lists' pictures, the source and the header fit, so do the plans that are searched for a slice; and the records that are made by
-/// them are records that the syntax can give, each behind those before it.
+/// Where the lists' pictures, the source and the header fit, so do the plans that are searched for a slice; and the
+/// records that are made by them are records that the syntax can give, each behind those before it.
 pub fn planned_slices_are_records()
     ensures fits { (f : Format) (h : SliceHead) (lists : Lists) (source : Planes) (range : ℕ) → IsGiven f h lists source range → TaskFits (task_by f h lists source (plan_by f h lists source range)) }
     ensures records { (f : Format) (h : SliceHead) (lists : Lists) (source : Planes) (range : ℕ) (p : Planes) (n : ℕ) → IsGiven f h lists source range → PlanesFit p

@@ -93,7 +93,8 @@ pub enum WordFault {
     NoCommand,
     /// The first word names no command.
     UnknownCommand,
-    /// `clap` refuses what follows the command, or answers it with its help; this is its kind of error, which is never want of memory.
+    /// `clap` refuses what follows the command, or answers it with its help; this is its kind of error, which is never
+    /// want of memory.
     Refused(ErrorKind),
 }
 

@@ -132,9 +132,9 @@ fn fill_middle(plane: &Plane, out: &mut Plane)
     }
 }
 
-/// Makes the half samples of a plane: at every place, in the margin too, the half samples of the samples about it, where
-/// a place outside the plane has the sample of the nearest place inside. The four planes have one size and margin, and
-/// the margin of `plane` is filled.
+/// Makes the half samples of a plane: at every place, in the margin too, the half samples of the samples about it,
+/// where a place outside the plane has the sample of the nearest place inside. The four planes have one size and
+/// margin, and the margin of `plane` is filled.
 pub fn fill_halves(plane: &Plane, halves: &mut HalfPlanes)
     requires filled { IsFilled plane.now }
     requires sizes { AreSized plane.now halves.old }

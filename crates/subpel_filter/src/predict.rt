@@ -45,9 +45,9 @@ pub fn luma_block(plane: &Plane, x: u32, y: u32, v: Vector, w: u32, h: u32, out:
     }
 }
 
-/// Predicts the block of `luma_block` from half samples that are kept, whatever they hold: each sample is the mean of two
-/// samples that stand in `plane` and in the planes of `halves`. Where `halves` is filled from `plane` by `fill_halves`, the
-/// block is that of `luma_block`. The four planes have one size and margin.
+/// Predicts the block of `luma_block` from half samples that are kept, whatever they hold: each sample is the mean of
+/// two samples that stand in `plane` and in the planes of `halves`. Where `halves` is filled from `plane` by
+/// `fill_halves`, the block is that of `luma_block`. The four planes have one size and margin.
 pub fn luma_from(
     plane: &Plane,
     halves: &HalfPlanes,

@@ -101,8 +101,8 @@ fn products(levels: &[i16; 16], factors: &[u32; 16]) -> [i32; 16]
     out
 }
 
-/// The coefficients that a decoder makes of the levels of a 4x4 block, both row by row (ITU-T H.264, clause 8.5.12.1, with
-/// flat scaling lists). For chroma the parameter is the chroma parameter.
+/// The coefficients that a decoder makes of the levels of a 4x4 block, both row by row (ITU-T H.264, clause 8.5.12.1,
+/// with flat scaling lists). For chroma the parameter is the chroma parameter.
 #[inline(always)]
 pub fn rescale4(qp: u8, levels: &[i16; 16]) -> [i32; 16]
     requires in_range { qp ≤ 51 }

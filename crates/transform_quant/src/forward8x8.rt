@@ -195,8 +195,8 @@ fn forward8_pass(x: &[Whole; 64]) -> [Whole; 64]
     out
 }
 
-/// The forward transform (C·X·Cᵀ + 32) >> 6 of an 8x8 block of differences, row by row; each difference is at most 255 in
-/// size. Its inverse is that of ITU-T H.264, clause 8.5.13.2.
+/// The forward transform (C·X·Cᵀ + 32) >> 6 of an 8x8 block of differences, row by row; each difference is at most 255
+/// in size. Its inverse is that of ITU-T H.264, clause 8.5.13.2.
 pub fn forward8(r: &[i16; 64]) -> [i32; 64]
     requires { AllWithin 64 255 r.now }
     ensures value { result ≡ forward8_of r.now }

@@ -90,7 +90,8 @@ fn inverse4_pass(x: &[Whole; 16]) -> [Whole; 16]
     out
 }
 
-/// The inverse 4x4 transform of coefficients, row by row (ITU-T H.264, clause 8.5.12.2): what is added to the prediction.
+/// The inverse 4x4 transform of coefficients, row by row (ITU-T H.264, clause 8.5.12.2): what is added to the
+/// prediction.
 pub fn inverse4(c: &[i32; 16]) -> [i32; 16]
     requires { AllWithin 16 1048576 c.now }
     ensures { result ≡ inverse4_of c.now }

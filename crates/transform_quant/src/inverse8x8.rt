@@ -232,7 +232,8 @@ fn inverse8_pass(x: &[Whole; 64]) -> [Whole; 64]
     out
 }
 
-/// The inverse 8x8 transform of coefficients, row by row (ITU-T H.264, clause 8.5.13.2): what is added to the prediction.
+/// The inverse 8x8 transform of coefficients, row by row (ITU-T H.264, clause 8.5.13.2): what is added to the
+/// prediction.
 pub fn inverse8(c: &[i32; 64]) -> [i32; 64]
     requires { AllWithin 64 1048576 c.now }
     ensures { result ≡ inverse8_of c.now }

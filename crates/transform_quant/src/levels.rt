@@ -51,8 +51,8 @@ fn level_at(levels: &[i16; 16], place: u8) -> i16
     levels[place as usize]
 }
 
-/// The levels of sixteen coefficients, which stand row by row, in zigzag order: of a 4x4 block, or of luma DC coefficients.
-/// Where a block is coded without its first coefficient, that coefficient is 0 here.
+/// The levels of sixteen coefficients, which stand row by row, in zigzag order: of a 4x4 block, or of luma DC
+/// coefficients. Where a block is coded without its first coefficient, that coefficient is 0 here.
 pub fn quantise4(kind: BlockKind, intra: bool, qp: u8, c: &[i32; 16]) -> Levels4
     requires in_range { qp ≤ 51 }
     requires of_kind { places kind ≡ 16 }

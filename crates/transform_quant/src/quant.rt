@@ -96,9 +96,9 @@ pub fn signed_level(c: i32, multiplier: u32, rounding: u32, shift: u32) -> i16
     if c < 0 { -size } else { size }
 }
 
-/// The level of a transform coefficient: its sign times (|c|·m + f) >> s, where m is the multiplier of the parameter, the
-/// kind of block and the place, and f is a third of the step for intra macroblocks and a sixth for inter macroblocks.
-/// The place counts row by row. For chroma the parameter is the chroma parameter.
+/// The level of a transform coefficient: its sign times (|c|·m + f) >> s, where m is the multiplier of the parameter,
+/// the kind of block and the place, and f is a third of the step for intra macroblocks and a sixth for inter
+/// macroblocks. The place counts row by row. For chroma the parameter is the chroma parameter.
 #[inline(always)]
 pub fn quantise(kind: BlockKind, intra: bool, qp: u8, place: u8, c: i32) -> i16
     requires in_range { qp ≤ 51 }

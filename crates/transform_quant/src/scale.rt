@@ -94,8 +94,9 @@ fn coefficients<const N: usize>(kind: BlockKind, qp: u8, sums: &[Whole; N]) -> [
     out
 }
 
-/// The coefficient that a decoder makes of a level at a place, which counts row by row (ITU-T H.264, clauses 8.5.12.1 and
-/// 8.5.13.1, with flat scaling lists). For chroma the parameter is the chroma parameter. DC levels have calls of their own.
+/// The coefficient that a decoder makes of a level at a place, which counts row by row (ITU-T H.264, clauses 8.5.12.1
+/// and 8.5.13.1, with flat scaling lists). For chroma the parameter is the chroma parameter. DC levels have calls of
+/// their own.
 #[inline(always)]
 pub fn rescale(kind: BlockKind, qp: u8, place: u8, level: i32) -> i32
     requires in_range { qp ≤ 51 }

@@ -1,12 +1,15 @@
-//! Whole numbers of a moderate size, as contracts see them: with no width. The transforms, planes of intra prediction and the
-//! deblocking filter compute with them.
+//! Whole numbers of a moderate size, as contracts see them: with no width. The transforms, planes of intra prediction
+//! and the deblocking filter compute with them. Beside them the counts of macroblocks and blocks that many crates need.
 #![tactic(auto)]
+
+mod grids;
 
 ghost use Rattle.std.specs.Prelude.{◌≡◌, ◌≤◌, ◌<◌, ◌^◌, ℕ, ℤ, pos, ◌+ℤ◌, ◌-ℤ◌, ◌*ℤ◌, ◌≤ℤ◌};
 ghost use Rattle.std.specs.Int.{int_shr, int_min, int_max};
 ghost use Rattle.spec_basics.specs.Bounds.{Within};
 ghost use Rattle.spec_basics.specs.Clip.{clip1, clip3};
 
+pub use grids::{block_number, in_macroblocks};
 use std::marker::Model;
 
 /// A number of 32 bits, which a contract sees as an integer: with no width.
