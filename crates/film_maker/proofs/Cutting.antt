@@ -4,8 +4,8 @@ use Rattle.std.specs.List.{range_with_len, flat_map}
 use Rattle.std.proofs.lemmas.List.{length-drop, get_or-take, get_or-drop, flat_map_more}
 use Rattle.std.proofs.lemmas.List.FromFn.{fill_by_all}
 use Rattle.std.proofs.lemmas.List.Folds.{flat_map-map}
-use Rattle.spec_film.specs.Films.{Planes, frame_line}
-use Rattle.spec_film.specs.Written.{picture_text}
+use Rattle.spec_film.specs.Films.{Planes}
+use Rattle.spec_film.specs.Written.{frame_line, picture_text}
 use Rattle.film_maker.specs.Bands.{IsBand, IsHalfBand, rows_cut, luma_place, chroma_place, cb_of, cr_of}
 use Rattle.film_maker.specs.Made.{luma_at, cb_at, cr_at, plane_by, made_picture}
 

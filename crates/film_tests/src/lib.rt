@@ -1,4 +1,4 @@
-//! Tests of the outside, of planes, of films, of the report and of the command's words: what no clause says, and texts that were written down from their
+//! Tests of the outside, of planes, of films and of the report: what no clause says, and texts that were written down from their
 //! formats. They stand in a crate of their own, so that the crates under test are proved once.
 #![tactic(auto)]
 
@@ -12,5 +12,3 @@ mod planes;
 mod report;
 #[cfg(test)]
 mod studios;
-#[cfg(test)]
-mod words;

@@ -1,7 +1,7 @@
 -- Worked texts of written films.
-use Rattle.std.proofs.Common.{◌≡◌, [], ◌∷◌, codes, refl}
+use Rattle.std.proofs.Common.{◌≡◌, [], codes, refl}
 use Rattle.std.specs.Fmt.{digits}
-use Rattle.spec_film.specs.Written.{head_text, picture_text, film_text}
+use Rattle.spec_film.specs.Written.{head_text, film_text}
 
 -- the head of a film of one macroblock at 25 pictures per second
 small_head : head_text (record { width = 16; height = 16; num = 25; den = 1 }) ≡ codes "YUV4MPEG2 W16 H16 F25:1 Ip C420\n"

@@ -1,4 +1,6 @@
+pub mod Padding
 pub mod Films
 pub mod Places
+pub mod Cropping
 pub mod Written
 pub mod Over

@@ -1,5 +1,5 @@
 -- Bytes that are written one after another.
-use Rattle.std.proofs.Common.{ℕ, zero, suc, ◌+◌, ◌-◌, ◌≡◌, ◌≤◌, ◌<◌, List, [], ◌∷◌, ◌++◌, length, take, Option, Some, None, refl, ap, sym, ◌∙◌, subst, arith, append_assoc, append-nil, length-append}
+use Rattle.std.proofs.Common.{ℕ, zero, suc, ◌+◌, ◌-◌, ◌≡◌, ◌≤◌, ◌<◌, List, [], ◌∷◌, ◌++◌, length, take, drop, ◌*◌, ◌/◌, Option, Some, None, refl, ap, ap₂, sym, ◌∙◌, subst, arith, append_assoc, append-nil, length-append}
 use Rattle.std.specs.Option.{option_map}
 use Rattle.enc_edge.specs.declared.studio.Out.{Out}
 use Rattle.enc_edge.specs.declared.studio.Out.TheVariants.{Stream, Recon, Report}
@@ -7,7 +7,18 @@ use Rattle.enc_edge.specs.declared.studio.Place.TheVariants.{Output}
 use Rattle.enc_edge.specs.Seen.{Seen}
 use Rattle.enc_edge.specs.Calls.{wrote, LaterFailed}
 use Rattle.picture_planes.specs.declared.plane.Plane.{Plane}
-use Rattle.picture_planes.specs.Samples.{row_of, rows_to, samples_of}
+use Rattle.std.specs.List.{flat_map, range_with_len}
+use Rattle.std.proofs.lemmas.List.Concat.{flat_map-append}
+use Rattle.std.proofs.lemmas.Grind.{common_steps}
+use Rattle.spec_basics.specs.Sizes.{in_macroblocks}
+use Rattle.spec_film.specs.declared.FilmHead.{FilmHead}
+use Rattle.spec_film.specs.Cropping.{cropped_plane, shown}
+use Rattle.spec_film.specs.Written.{planes_text}
+use Rattle.picture_planes.specs.declared.picture.Picture.{Picture}
+use Rattle.picture_planes.specs.Pictures.{planes_of}
+use Rattle.y4m_film.specs.Sizes.{FitsHead}
+use Rattle.picture_planes.specs.Samples.{row_of, samples_of}
+use Rattle.picture_planes.proofs.SampleLaws.{row_of_samples}
 use Rattle.y4m_film.specs.Waits.{Gathered}
 use Rattle.y4m_film.specs.Writes.{FrontWritten}
 
@@ -104,68 +115,99 @@ gathered_then_failed out before xs mid ys old between new g f =
 pub front_more : (out : Out) (before xs ys : List ℕ) (old new : Seen) → FrontWritten out (before ++ xs) old new → FrontWritten out (before ++ (xs ++ ys)) old new
 front_more out before xs ys old new f = subst (λ zs. FrontWritten out zs old new) (append_assoc before xs ys) (front_first out (before ++ xs) ys old new f)
 
--- ---- the rows of a plane
+-- ---- the rows of a plane that are shown
 
--- the first n rows came
-pub record RowsGathered (out : Out) (p : Plane) (n count : ℕ) (before after : List ℕ) (old new : Seen) : Type 0 where
-  pub rows : Gathered out before (rows_to p n) after old new
-  pub room : count < 65536
-
-pub no_row : (out : Out) (p : Plane) (count : ℕ) (before : List ℕ) (s : Seen) → count < 65536 → RowsGathered out p 0 count before before s s
-unfolding rows_to
-no_row out p count before s room = record { rows = gathered_none out before s; room = room }
-
-rows_suc : (p : Plane) (n : ℕ) → rows_to p (suc n) ≡ rows_to p n ++ row_of p n
-unfolding rows_to
-rows_suc p n = refl
-
-rows_more : (p : Plane) (n : ℕ) → rows_to p (n + 1) ≡ rows_to p n ++ row_of p n
-rows_more p n = ap (λ m. rows_to p m) (one n) ∙ rows_suc p n
-  where
-    one : (n : ℕ) → n + 1 ≡ suc n
-    one n = omega arith
-
-pub row_gathered : (out : Out) (p : Plane) (n less count : ℕ) (bytes before mid after : List ℕ) (old between new : Seen)
-    → RowsGathered out p n less before mid old between → bytes ≡ row_of p n → Gathered out mid bytes after between new → count < 65536 → RowsGathered out p (n + 1) count before after old new
-row_gathered out p n less count bytes before mid after old between new r e g room = record {
-  rows = subst (λ xs. Gathered out before xs after old new) (ap (λ xs. rows_to p n ++ xs) e ∙ sym (rows_more p n)) (gathered_then out before (rows_to p n) mid bytes after old between new r.rows g);
-  room = room;
-}
-
-pub all_rows : (out : Out) (p : Plane) (n count : ℕ) (before after : List ℕ) (old new : Seen) → RowsGathered out p n count before after old new → n ≡ p.height → Gathered out before (samples_of p) after old new
-unfolding samples_of
-all_rows out p n count before after old new r e = subst (λ m. Gathered out before (rows_to p m) after old new) e r.rows
-
-rows_behind : Plane → ℕ → ℕ → List ℕ
-rows_behind p n zero = []
-rows_behind p n (suc k) = rows_behind p n k ++ row_of p (n + k)
-
-rows_split : (p : Plane) (n k : ℕ) → rows_to p (n + k) ≡ rows_to p n ++ rows_behind p n k
-unfolding rows_behind
-rows_split p n zero = ap (λ m. rows_to p m) (none n) ∙ sym (append-nil (rows_to p n))
+range_split : (a n m : ℕ) → range_with_len a (n + m) ≡ range_with_len a n ++ range_with_len (a + n) m
+range_split a zero m = ap₂ (λ (i k : ℕ). range_with_len i k) (sym (none a)) (front m)
   where
     none : (n : ℕ) → n + 0 ≡ n
     none n = omega arith
-rows_split p n (suc k) =
-    ap (λ m. rows_to p m) (more n k) ∙ rows_more p (n + k) ∙ ap (λ xs. xs ++ row_of p (n + k)) (rows_split p n k) ∙ append_assoc (rows_to p n) (rows_behind p n k) (row_of p (n + k))
-  where
-    more : (n k : ℕ) → n + suc k ≡ n + k + 1
-    more n k = omega arith
 
--- a row and all rows behind it
-rows_whole : (p : Plane) (n : ℕ) → n < p.height → (rows_to p n ++ row_of p n) ++ rows_behind p (n + 1) (p.height - (n + 1)) ≡ samples_of p
-unfolding samples_of
-rows_whole p n within =
-    ap (λ xs. xs ++ rows_behind p (n + 1) (p.height - (n + 1))) (sym (rows_more p n))
-    ∙ sym (rows_split p (n + 1) (p.height - (n + 1))) ∙ ap (λ m. rows_to p m) (whole n p.height within)
+    front : (n : ℕ) → 0 + n ≡ n
+    front n = omega arith
+range_split a (suc n) m =
+    ap (λ (k : ℕ). range_with_len a k) (more n m) ∙ ap (λ (xs : List ℕ). a ∷ xs) (range_split (a + 1) n m ∙ ap (λ (i : ℕ). range_with_len (a + 1) n ++ range_with_len i m) (behind a n))
   where
-    whole : (n m : ℕ) → n < m → n + 1 + (m - (n + 1)) ≡ m
-    whole n m h = omega (arith, h)
+    more : (a b : ℕ) → suc a + b ≡ suc (a + b)
+    more a b = omega arith
 
--- a write failed in a row
-pub row_failed : (out : Out) (p : Plane) (n count : ℕ) (bytes before mid : List ℕ) (old between new : Seen)
-    → RowsGathered out p n count before mid old between → n < p.height → bytes ≡ row_of p n → FrontWritten out (mid ++ bytes) between new → FrontWritten out (before ++ samples_of p) old new
-row_failed out p n count bytes before mid old between new r within e f =
-    subst (λ xs. FrontWritten out (before ++ xs) old new)
-    (ap (λ xs. (rows_to p n ++ xs) ++ rows_behind p (n + 1) (p.height - (n + 1))) e ∙ rows_whole p n within)
-    (front_more out before (rows_to p n ++ bytes) (rows_behind p (n + 1) (p.height - (n + 1))) old new (gathered_then_failed out before (rows_to p n) mid bytes old between new r.rows f))
+    behind : (a b : ℕ) → a + 1 + b ≡ a + suc b
+    behind a b = omega arith
+
+module _ (width columns : ℕ) (samples : List ℕ) where
+  -- the shown part of row y
+  abbrev part : ℕ → List ℕ
+  part y = take columns (drop (y * width) samples)
+
+  abbrev rows_from : ℕ → ℕ → List ℕ
+  rows_from n k = flat_map (λ y. take columns (drop (y * width) samples)) (range_with_len n k)
+
+  rows_split : (n k : ℕ) → rows_from 0 (n + k) ≡ rows_from 0 n ++ rows_from n k
+  rows_split n k =
+      ap (flat_map (λ y. take columns (drop (y * width) samples))) (range_split 0 n k) ∙ flat_map-append (λ y. take columns (drop (y * width) samples)) (range_with_len 0 n) (range_with_len (0 + n) k)
+      ∙ ap (λ (i : ℕ). rows_from 0 n ++ rows_from i k) (front n)
+    where
+      front : (n : ℕ) → 0 + n ≡ n
+      front n = omega arith
+
+  rows_more : (n : ℕ) → rows_from 0 (n + 1) ≡ rows_from 0 n ++ part n
+  rows_more n = rows_split n 1 ∙ ap (λ (xs : List ℕ). rows_from 0 n ++ xs) (append-nil (part n))
+
+  rows_whole : (n rows : ℕ) → n < rows → (rows_from 0 n ++ part n) ++ rows_from (n + 1) (rows - (n + 1)) ≡ rows_from 0 rows
+  rows_whole n rows h = ap (λ (xs : List ℕ). xs ++ rows_from (n + 1) (rows - (n + 1))) (sym (rows_more n)) ∙ sym (rows_split (n + 1) (rows - (n + 1))) ∙ ap (rows_from 0) (whole n rows h)
+    where
+      whole : (n m : ℕ) → n < m → n + 1 + (m - (n + 1)) ≡ m
+      whole n m h = omega arith
+
+  -- the first n rows came
+  pub record RowsGathered (out : Out) (n count : ℕ) (before after : List ℕ) (old new : Seen) : Type 0 where
+    pub rows : Gathered out before (rows_from 0 n) after old new
+    pub room : count < 65536
+
+  pub no_row : (out : Out) (count : ℕ) (before : List ℕ) (s : Seen) → count < 65536 → RowsGathered out 0 count before before s s
+  no_row out count before s room = record { rows = gathered_none out before s; room = room }
+
+  pub row_gathered : (out : Out) (n less count : ℕ) (bytes before mid after : List ℕ) (old between new : Seen)
+      → RowsGathered out n less before mid old between → bytes ≡ part n → Gathered out mid bytes after between new → count < 65536 → RowsGathered out (n + 1) count before after old new
+  row_gathered out n less count bytes before mid after old between new r e g room = record {
+    rows = subst (λ xs. Gathered out before xs after old new) (ap (λ xs. rows_from 0 n ++ xs) e ∙ sym (rows_more n)) (gathered_then out before (rows_from 0 n) mid bytes after old between new r.rows g);
+    room = room;
+  }
+
+  pub all_rows : (out : Out) (n rows count : ℕ) (before after : List ℕ) (old new : Seen) → RowsGathered out n count before after old new → n ≡ rows → Gathered out before (cropped_plane width columns rows samples) after old new
+  unfolding cropped_plane
+  all_rows out n rows count before after old new r e = subst (λ m. Gathered out before (rows_from 0 m) after old new) e r.rows
+
+  -- a write failed in a row
+  pub row_failed : (out : Out) (n rows count : ℕ) (bytes before mid : List ℕ) (old between new : Seen)
+      → RowsGathered out n count before mid old between → n < rows → bytes ≡ part n → FrontWritten out (mid ++ bytes) between new → FrontWritten out (before ++ cropped_plane width columns rows samples) old new
+  unfolding cropped_plane
+  row_failed out n rows count bytes before mid old between new r within e f =
+      subst (λ xs. FrontWritten out (before ++ xs) old new)
+      (ap (λ xs. (rows_from 0 n ++ xs) ++ rows_from (n + 1) (rows - (n + 1))) e ∙ rows_whole n rows within)
+      (front_more out before (rows_from 0 n ++ bytes) (rows_from (n + 1) (rows - (n + 1))) old new (gathered_then_failed out before (rows_from 0 n) mid bytes old between new r.rows f))
+
+-- the shown part of a row of a plane
+pub row_part : (p : Plane) (y columns : ℕ) (row bytes : List ℕ) → y < p.height → columns ≤ p.width → row ≡ row_of p y → bytes ≡ take columns row → bytes ≡ take columns (drop (y * p.width) (samples_of p))
+row_part p y columns row bytes inside narrow is front =
+    front ∙ ap (λ (l : List ℕ). take columns l) (is ∙ row_of_samples p y inside) ∙ shorter columns p.width (drop (y * p.width) (samples_of p)) narrow
+  where
+    shorter : (n m : ℕ) (xs : List ℕ) → n ≤ m → take n (take m xs) ≡ take n xs
+    shorter n m xs h = grind (arith, common_steps)
+
+-- what is handed on of a picture is what is shown of it
+pub shown_is : (head : FilmHead) (p : Picture) → FitsHead head p
+    → cropped_plane p.y.width head.width head.height (samples_of p.y) ++ (cropped_plane p.cb.width (head.width / 2) (head.height / 2) (samples_of p.cb) ++ cropped_plane p.cr.width (head.width / 2) (head.height / 2) (samples_of p.cr))
+    ≡ planes_text (shown head (planes_of p))
+shown_is head p fits =
+    let y : p.y.width ≡ 16 * in_macroblocks head.width = fits.luma_width ∙ sixteen (in_macroblocks head.width) in
+    let cb : p.cb.width ≡ 8 * in_macroblocks head.width = fits.cb_width ∙ eight (in_macroblocks head.width) in
+    let cr : p.cr.width ≡ 8 * in_macroblocks head.width = fits.cr_width ∙ eight (in_macroblocks head.width) in
+    ap (λ (w : ℕ). cropped_plane w head.width head.height (samples_of p.y) ++ (cropped_plane p.cb.width (head.width / 2) (head.height / 2) (samples_of p.cb) ++ cropped_plane p.cr.width (head.width / 2) (head.height / 2) (samples_of p.cr))) y
+    ∙ ap₂ (λ (v w : ℕ). cropped_plane (16 * in_macroblocks head.width) head.width head.height (samples_of p.y) ++ (cropped_plane v (head.width / 2) (head.height / 2) (samples_of p.cb) ++ cropped_plane w (head.width / 2) (head.height / 2) (samples_of p.cr))) cb cr
+  where
+    sixteen : (n : ℕ) → n * 16 ≡ 16 * n
+    sixteen n = omega arith
+
+    eight : (n : ℕ) → n * 16 / 2 ≡ 8 * n
+    eight n = omega arith

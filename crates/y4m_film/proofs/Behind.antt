@@ -1,14 +1,15 @@
 -- What the bytes behind a film's head tell of all bytes.
-use Rattle.std.proofs.Common.{ℕ, ◌+◌, ◌-◌, ◌≡◌, List, [], ◌++◌, length, drop, Option, Some, None, ap, sym, ◌∙◌}
+use Rattle.std.proofs.Common.{ℕ, ◌+◌, ◌-◌, ◌≡◌, List, [], ◌++◌, length, drop, Option, Some, None, Ok, Err, ap, sym, ◌∙◌}
 use Rattle.std.specs.Prelude.{IfSome}
 use Rattle.std.specs.Option.{option_map}
 use Rattle.enc_edge.proofs.Spots.{drop_more}
 use Rattle.spec_film.specs.declared.FilmHead.{FilmHead}
-use Rattle.spec_film.specs.declared.InputFault.TheVariants.{Form}
+use Rattle.spec_film.specs.declared.HeadFault.{HeadFault}
+use Rattle.spec_film.specs.declared.InputFault.TheVariants.{Head}
 use Rattle.spec_film.specs.Films.{Film, Planes, FilmEnd, Faulty, most_pictures, pictures_of, read_head, film_of, film_from}
 use Rattle.y4m_film.specs.Taken.{HeadIs, FilmTaken, IsFilm, PicturesTaken}
 
-pub film_is : (head : FilmHead) (n : ℕ) (left : List ℕ) → HeadIs head n left → film_of left ≡ film_from (Some (head, drop n left))
+pub film_is : (head : FilmHead) (n : ℕ) (left : List ℕ) → HeadIs head n left → film_of left ≡ film_from (Ok (head, drop n left))
 unfolding film_of
 film_is head n left is = ap film_from is
 
@@ -63,9 +64,9 @@ told_none head n m o is told =
     told_behind head n (λ left. drop m left ≡ []) (λ left. drop (n + m) left ≡ []) o (λ left h none. sym (drop_more n m left) ∙ none) is told
 
 -- there is no head
-pub told_no_head : (o : Option (List ℕ)) → IfSome o (λ left. read_head left ≡ None) → IfSome o (λ left. ((film_of left).head ≡ None) × ((film_of left).end ≡ Faulty Form))
+pub told_no_head : (fault : HeadFault) (o : Option (List ℕ)) → IfSome o (λ left. read_head left ≡ Err fault) → IfSome o (λ left. ((film_of left).head ≡ None) × ((film_of left).end ≡ Faulty (Head fault)))
 unfolding film_of
-told_no_head None e = tt
-told_no_head (Some left) e =
-    let f : film_of left ≡ film_from None = ap film_from e in
+told_no_head fault None e = tt
+told_no_head fault (Some left) e =
+    let f : film_of left ≡ film_from (Err fault) = ap film_from e in
     (ap (λ (x : Film). x.head) f, ap (λ (x : Film). x.end) f)

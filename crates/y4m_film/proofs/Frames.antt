@@ -1,251 +1,381 @@
--- A frame is a line and three planes.
-use Rattle.std.proofs.Common.{ℕ, zero, suc, ◌+◌, ◌-◌, ◌*◌, ◌≡◌, ◌<◌, ◌≤◌, min, List, [], ◌∷◌, length, take, drop, Option, Some, None, Bool, true, false, cond, refl, ap, ap₂, sym, ◌∙◌, arith, subst, length-drop}
-use Rattle.std.specs.Prelude.{IfSome, ◌&&◌, nat_le, nat_eq, ◌≢◌}
+-- A picture is a line and three planes.
+use Rattle.std.proofs.Common.{ℕ, zero, suc, ◌+◌, ◌-◌, ◌≡◌, ◌<◌, ◌≤◌, ◌⊎◌, inl, inr, min, List, [], ◌∷◌, length, take, drop, get_or, Option, Some, None, Result, Ok, Err, Bool, true, false, not, refl, ap, ap₂, sym, ◌∙◌, arith, subst, length-drop}
+use Rattle.std.specs.Prelude.{IfSome, IfErr, ◌&&◌, ◌||◌, nat_le, nat_eq}
 use Rattle.std.specs.Option.{option_map}
-use Rattle.std.specs.List.{starts_with}
-use Rattle.std.specs.Cmp.Lexicographic.{pointwise}
+use Rattle.std.specs.List.{starts_with, position_or_len}
+use Rattle.std.specs.Cmp.Lexicographic.{pointwise, bytes_decides}
+use Rattle.std.proofs.lemmas.Bool.{cases_lt}
 use Rattle.std.proofs.lemmas.Bool.Decides.{nat_tests}
+use Rattle.std.proofs.lemmas.List.{get_or-take}
+use Rattle.std.proofs.lemmas.List.Sums.{passes_at_first, prefix_len-le-length}
 use Rattle.std.proofs.lemmas.Grind.{common_steps}
 use Rattle.enc_edge.specs.declared.studio.Place.TheVariants.{Input}
 use Rattle.enc_edge.specs.Seen.{Seen}
-use Rattle.enc_edge.specs.Calls.{took}
-use Rattle.enc_edge.specs.Reads.{Took, TookSome}
-use Rattle.enc_edge.proofs.Spots.{read_step}
+use Rattle.enc_edge.specs.Calls.{took, LaterFailed}
+use Rattle.enc_edge.specs.Reads.{Took, TookSome, ReadFailed, ReadFailedWithin}
+use Rattle.enc_edge.proofs.Spots.{took_more, read_step}
 use Rattle.spec_film.specs.declared.FilmHead.{FilmHead}
-use Rattle.spec_film.specs.declared.InputFault.TheVariants.{Form}
-use Rattle.spec_film.specs.Films.{Planes, luma_count, chroma_count, planes_count, planes_at, frame_line, has_picture, read_picture, Next, Broken, step_from, frame_step}
-use Rattle.y4m_film.proofs.Lines.{Read}
+use Rattle.spec_film.specs.declared.InputFault.{InputFault}
+use Rattle.spec_film.specs.declared.InputFault.TheVariants as faults
+use Rattle.spec_film.specs.Films.{Planes, is_line_feed, ends_word, line_of, has_line, most_line, most_pictures, planes_count, planes_at, padded, frame_word, is_unlike_frame, is_no_frame, frame_count, frame_at, Next, Broken, frame_step}
+use Rattle.spec_film.proofs.FilmLaws.{step_some, frame_none, frame_cut, frame_next}
+use Rattle.y4m_film.specs.declared.pictures.FrameFault.{FrameFault}
+use Rattle.y4m_film.specs.declared.pictures.FrameFault.TheVariants.{NotFrame, CutFrame, TooLong, ReadFault}
+use Rattle.y4m_film.specs.LineReads.{WholeLine, CutLine, LongLine, LineUnread}
+use Rattle.y4m_film.specs.FrameEnds.{FrameUnread, FrameEnd, CutEnd, PlanesEnd, input_fault}
+use Rattle.y4m_film.proofs.LineBytes.{Read}
 
--- two parts that follow each other
-joined_told : (a b : ℕ) (P Q : List ℕ → Type 0) (o : Option (List ℕ)) → IfSome o (λ l. (a ≤ length l) × P l) → IfSome (option_map (drop a) o) (λ l. (b ≤ length l) × Q l)
-    → IfSome o (λ l. (a + b ≤ length l) × P l × Q (drop a l))
-joined_told a b P Q None p q = tt
-joined_told a b P Q (Some left) p q = (longer (length left) (length (drop a left)) (length-drop a left) p.0 q.0, p.1, q.1)
+-- ---- the picture of a number
+
+step_is : (number : ℕ) (head : FilmHead) (left : List ℕ) → number < most_pictures → 0 < length left → frame_step (most_pictures - number) head left ≡ frame_at number head left
+step_is number head left room some = step_some (most_pictures - number) head left (omega arith) some ∙ ap (λ (k : ℕ). frame_at k head left) (twice most_pictures number room)
   where
-    longer : (l d : ℕ) → d ≡ l - a → a ≤ l → b ≤ d → a + b ≤ l
-    longer l d is h k = omega arith
+    twice : (m n : ℕ) → n < m → m - (m - n) ≡ n
+    twice m n h = omega arith
 
-joined : (a b : ℕ) (P Q : List ℕ → Type 0) (first mid last : Seen) → Took a (λ l. (a ≤ length l) × P l) first mid → Took b (λ l. (b ≤ length l) × Q l) mid last
-    → Took (a + b) (λ l. (a + b ≤ length l) × P l × Q (drop a l)) first last
-joined a b P Q first mid last p q = record {
-  change = read_step a b first mid last p.change q.change;
-  content = joined_told a b P Q first.input.bytes p.content (subst (λ (s : Seen). IfSome s.input.bytes (λ l. (b ≤ length l) × Q l)) p.change q.content);
-}
+-- ---- the line
 
--- the second part is too short
-few_told : (a b n : ℕ) (P : List ℕ → Type 0) (o : Option (List ℕ)) → a + b ≤ n → IfSome o (λ l. (a ≤ length l) × P l) → IfSome (option_map (drop a) o) (λ l. length l < b) → IfSome o (λ l. length l < n)
-few_told a b n P None room p few = tt
-few_told a b n P (Some left) room p few = shorter (length left) (length (drop a left)) (length-drop a left) p.0 few
+-- a line feed among the first five bytes
+word_at : (i : ℕ) → i < 5 → get_or frame_word i 0 ≡ 10 → ⊥
+word_at zero h e = cc
+word_at (suc zero) h e = cc
+word_at (suc (suc zero)) h e = cc
+word_at (suc (suc (suc zero))) h e = cc
+word_at (suc (suc (suc (suc zero)))) h e = cc
+word_at (suc (suc (suc (suc (suc i))))) h e = absurd (omega arith)
+
+not_word : (ys : List ℕ) (i : ℕ) → i < 5 → i < length ys → get_or ys i 0 ≡ 10 → starts_with nat_eq frame_word ys ≡ false
+not_word ys i h k e = go (pointwise nat_eq ys (take (length ys) frame_word)) refl
   where
-    shorter : (l d : ℕ) → d ≡ l - a → a ≤ l → d < b → l < n
-    shorter l d is h k = omega arith
+    go : (b : Bool) → pointwise nat_eq ys (take (length ys) frame_word) ≡ b → pointwise nat_eq ys (take (length ys) frame_word) ≡ false
+    go false is = is
+    go true is =
+        let same : ys ≡ take (length ys) frame_word = (bytes_decides ys (take (length ys) frame_word)).0 is in
+        absurd (word_at i h (sym (get_or-take (length ys) frame_word i 0 k) ∙ ap (λ (l : List ℕ). get_or l i 0) (sym same) ∙ e))
 
-few_then : (a b n : ℕ) (P : List ℕ → Type 0) (first mid last : Seen) → a + b ≤ n → Took a (λ l. (a ≤ length l) × P l) first mid → TookSome (λ l. length l < b) mid last → TookSome (λ l. length l < n) first last
-few_then a b n P first mid last room p few = (
-  a + few.0,
-  record {
-    change = read_step a few.0 first mid last p.change few.1.change;
-    content = few_told a b n P first.input.bytes room p.content (subst (λ (s : Seen). IfSome s.input.bytes (λ l. length l < b)) p.change few.1.content);
-  },
-)
-
-fewer : (a n : ℕ) (o : Option (List ℕ)) → a ≤ n → IfSome o (λ l. length l < a) → IfSome o (λ l. length l < n)
-fewer a n None h few = tt
-fewer a n (Some left) h few = less (length left) few
+fed_unlike : (xs : List ℕ) (i : ℕ) → i < 5 → i < length xs → get_or xs i 0 ≡ 10 → is_unlike_frame xs ≡ true
+unfolding is_unlike_frame
+fed_unlike xs i h k e =
+    ap (λ (b : Bool). not b || (nat_le 6 (length xs) && not (ends_word (get_or xs 5 0))))
+    (not_word (take 5 xs) i h (front xs i h k) (get_or-take 5 xs i 0 h ∙ e))
   where
-    less : (l : ℕ) → l < a → l < n
-    less l k = omega arith
+    front : (xs : List ℕ) (i : ℕ) → i < 5 → i < length xs → i < length (take 5 xs)
+    front xs i h k = grind (arith, common_steps)
 
-pub count_is : (width height w h : ℕ) → w ≡ width → h ≡ height → h * w ≡ width * height
-count_is width height w h we he = ap₂ (λ (x y : ℕ). y * x) we he ∙ turn width height
+length_front : (n : ℕ) (xs : List ℕ) → length (take n xs) ≡ min n (length xs)
+length_front n xs = grind (arith, common_steps)
+
+shorter : (a b : ℕ) (xs : List ℕ) → a ≤ b → take a (take b xs) ≡ take a xs
+shorter a b xs h = grind (arith, common_steps)
+
+-- where the line feed stands
+pub fed_at : (n : ℕ) (left : List ℕ) → has_line left ≡ true → length (line_of left) + 1 ≡ n → get_or left (n - 1) 0 ≡ 10
+fed_at n left has is =
+    let p : ℕ = position_or_len is_line_feed (take most_line left) in
+    let most : position_or_len is_line_feed (take most_line left) ≤ length (take most_line left) = prefix_len-le-length _ (take most_line left) in
+    let long : length (line_of left) ≡ position_or_len is_line_feed (take most_line left) = length_front (position_or_len is_line_feed (take most_line left)) (take most_line left) ∙ omega (arith, most) in
+    let test : length (line_of left) + 1 ≤ length (take most_line left) = tested (length (line_of left) + 1) (length (take most_line left)) has in
+    let inside : position_or_len is_line_feed (take most_line left) < length (take most_line left) = omega (arith, long, test) in
+    let room : position_or_len is_line_feed (take most_line left) < most_line = omega (arith, inside, length_front most_line left) in
+    let place : n - 1 ≡ position_or_len is_line_feed (take most_line left) = omega (arith, long, is) in
+    ap (λ (k : ℕ). get_or left k 0) place ∙ sym (get_or-take most_line left (position_or_len is_line_feed (take most_line left)) 0 room)
+    ∙ is_ten (get_or (take most_line left) (position_or_len is_line_feed (take most_line left)) 0) (passes_at_first is_line_feed (take most_line left) 0 inside)
   where
-    turn : (x y : ℕ) → y * x ≡ x * y
-    turn x y = grind arith
+    tested : (a b : ℕ) → nat_le a b ≡ true → a ≤ b
+    tested a b e = grind (arith, nat_tests)
 
--- a plane was read
-abbrev pub PlaneRead : ℕ → List ℕ → List ℕ → Type 0
-PlaneRead n samples left = (n ≤ length left) × (samples ≡ take n left)
+    is_ten : (b : ℕ) → is_line_feed b ≡ true → b ≡ 10
+    is_ten b e = grind (arith, nat_tests)
 
-module _ (head : FilmHead) (a b c : ℕ) (la : a ≡ luma_count head) (lb : b ≡ chroma_count head) (lc : c ≡ chroma_count head) where
-  pub few_luma : (first last : Seen) → TookSome (λ l. length l < a) first last → TookSome (λ l. length l < planes_count head) first last
-  few_luma first last few = (few.0, record { change = few.1.change; content = fewer a (planes_count head) first.input.bytes (omega arith) few.1.content })
+-- a line tells as much as all bytes
+line_tells : (n : ℕ) (left : List ℕ) → n ≤ length left → has_line left ≡ true → length (line_of left) + 1 ≡ n → is_unlike_frame (take n left) ≡ is_unlike_frame left
+unfolding is_unlike_frame
+line_tells n left long has is = by (cases_lt n 6)
+  where
+    feed : get_or left (n - 1) 0 ≡ 10
+    feed = fed_at n left has is
 
-  pub few_cb : (y : List ℕ) (first mid last : Seen) → Took a (PlaneRead a y) first mid → TookSome (λ l. length l < b) mid last → TookSome (λ l. length l < planes_count head) first last
-  few_cb y first mid last p few = few_then a b (planes_count head) (λ l. y ≡ take a l) first mid last (omega arith) p few
+    by : (n < 6) ⊎ (6 ≤ n) → is_unlike_frame (take n left) ≡ is_unlike_frame left
+    by (inl few) =
+        fed_unlike (take n left) (n - 1) (omega (arith, is)) (omega (arith, is, length_front n left)) (get_or-take n left (n - 1) 0 (omega (arith, is)) ∙ feed)
+        ∙ sym (fed_unlike left (n - 1) (omega (arith, is)) (omega (arith, is)) feed)
+    by (inr many) =
+        ap₂ (λ (xs : List ℕ) (b : Bool). not (starts_with nat_eq frame_word xs) || b) (front n left many) (rest (length (take n left)) (length left) (length_front n left))
+      where
+        front : (n : ℕ) (xs : List ℕ) → 6 ≤ n → take 5 (take n xs) ≡ take 5 xs
+        front n xs h = shorter 5 n xs (omega arith)
 
-  pub luma_and_cb : (y cb : List ℕ) (first mid last : Seen) → Took a (PlaneRead a y) first mid → Took b (PlaneRead b cb) mid last
-      → Took (a + b) (λ l. (a + b ≤ length l) × (y ≡ take a l) × (cb ≡ take b (drop a l))) first last
-  luma_and_cb y cb first mid last p q = joined a b (λ l. y ≡ take a l) (λ l. cb ≡ take b l) first mid last p q
+        test : (a b : ℕ) → a ≤ b → nat_le a b ≡ true
+        test a b h = grind (arith, nat_tests)
 
-  both : (y cb : List ℕ) (o : Option (List ℕ)) → IfSome o (λ l. (a + b ≤ length l) × (y ≡ take a l) × (cb ≡ take b (drop a l))) → IfSome o (λ l. (a + b ≤ length l) × ((y ≡ take a l) × (cb ≡ take b (drop a l))))
-  both y cb None told = tt
-  both y cb (Some left) told = (told.0, (told.1, told.2))
+        rest : (a b : ℕ) → a ≡ min n (length left) → (nat_le 6 (length (take n left)) && not (ends_word (get_or (take n left) 5 0))) ≡ (nat_le 6 (length left) && not (ends_word (get_or left 5 0)))
+        rest a b e =
+            ap₂ (λ (t : Bool) (c : ℕ). t && not (ends_word c)) (test 6 (length (take n left)) (omega (arith, many, long, length_front n left)) ∙ sym (test 6 (length left) (omega (arith, many, long)))) (get_or-take n left 5 0 (omega arith))
 
-  pub two_planes : (y cb : List ℕ) (first mid last : Seen) → Took a (PlaneRead a y) first mid → Took b (PlaneRead b cb) mid last
-      → Took (a + b) (λ l. (a + b ≤ length l) × ((y ≡ take a l) × (cb ≡ take b (drop a l)))) first last
-  two_planes y cb first mid last p q =
-      let t = luma_and_cb y cb first mid last p q in
-      record { change = t.change; content = both y cb first.input.bytes t.content }
-
-  pub few_cr : (y cb : List ℕ) (first mid next last : Seen) → Took a (PlaneRead a y) first mid → Took b (PlaneRead b cb) mid next → TookSome (λ l. length l < c) next last
-      → TookSome (λ l. length l < planes_count head) first last
-  few_cr y cb first mid next last p q few =
-      few_then (a + b) c (planes_count head) (λ l. (y ≡ take a l) × (cb ≡ take b (drop a l))) first next last (omega arith) (two_planes y cb first mid next p q) few
-
-  all_told : (y cb cr : List ℕ) (o : Option (List ℕ)) → IfSome o (λ l. (a + b + c ≤ length l) × ((y ≡ take a l) × (cb ≡ take b (drop a l))) × (cr ≡ take c (drop (a + b) l)))
-      → IfSome o (λ l. (planes_count head ≤ length l) × (record { luma = y; cb = cb; cr = cr } ≡ planes_at head l))
-  all_told y cb cr None told = tt
-  all_told y cb cr (Some left) told =
-      let sum : a + b + c ≡ planes_count head = omega arith in
-      let ye : y ≡ take (luma_count head) left = told.1.0 ∙ ap (λ (n : ℕ). take n left) la in
-      let cbe : cb ≡ take (chroma_count head) (drop (luma_count head) left) = told.1.1 ∙ ap₂ (λ (n m : ℕ). take m (drop n left)) la lb in
-      let ab : a + b ≡ luma_count head + chroma_count head = ap₂ (λ (n m : ℕ). n + m) la lb in
-      let cre : cr ≡ take (chroma_count head) (drop (luma_count head + chroma_count head) left) = told.2 ∙ ap₂ (λ (n m : ℕ). take m (drop n left)) ab lc in (
-        subst (λ (n : ℕ). n ≤ length left) sum told.0,
-        ap (λ (l : List ℕ). let p : Planes = record { luma = l; cb = cb; cr = cr } in p) ye
-            ∙ ap (λ (l : List ℕ). let p : Planes = record { luma = take (luma_count head) left; cb = l; cr = cr } in p) cbe
-            ∙ ap (λ (l : List ℕ). let p : Planes = record { luma = take (luma_count head) left; cb = take (chroma_count head) (drop (luma_count head) left); cr = l } in p) cre,
-      )
-
-  pub three_planes : (y cb cr : List ℕ) (first mid next last : Seen) → Took a (PlaneRead a y) first mid → Took b (PlaneRead b cb) mid next → Took c (PlaneRead c cr) next last
-      → Took (planes_count head) (λ l. (planes_count head ≤ length l) × (record { luma = y; cb = cb; cr = cr } ≡ planes_at head l)) first last
-  three_planes y cb cr first mid next last p q r =
-      let t = joined (a + b) c (λ l. (y ≡ take a l) × (cb ≡ take b (drop a l))) (λ l. cr ≡ take c l) first next last (two_planes y cb first mid next p q) r in
-      let sum : a + b + c ≡ planes_count head = omega arith in
-      record { change = t.change ∙ ap (λ (n : ℕ). took Input n first) sum; content = all_told y cb cr first.input.bytes t.content }
-
-  pub failed_after_two : (y cb : List ℕ) (first mid next last : Seen) → Took a (PlaneRead a y) first mid → Took b (PlaneRead b cb) mid next → next ≡ took Input (a + b) first
-  failed_after_two y cb first mid next last p q = (two_planes y cb first mid next p q).change
-
--- THE LINE
-
-take_front : (k n : ℕ) (left : List ℕ) → n ≡ min k (length left) → take k (take n left) ≡ take k left
-take_front k n left is = grind (arith, common_steps)
-
-starts_read : (k n : ℕ) (buf left text : List ℕ) → length text ≡ k → n ≡ min k (length left) → take n buf ≡ take n left
-    → starts_with nat_eq (take n buf) text ≡ starts_with nat_eq left text
-starts_read k n buf left text len is same =
-    ap (λ xs. pointwise nat_eq text (take (length text) xs)) same
-    ∙ ap (λ m. pointwise nat_eq text (take m (take n left))) len
-    ∙ ap (pointwise nat_eq text) (take_front k n left is)
-    ∙ sym (ap (λ m. pointwise nat_eq text (take m left)) len)
-
--- what is no picture is a fault
-broken : (more : ℕ) (head : FilmHead) (left : List ℕ) → 0 < length left → has_picture head left ≡ false → frame_step more head left ≡ Broken Form
-unfolding frame_step read_picture
-broken more head [] some none = absurd (omega arith)
-broken zero head (x ∷ left) some none = refl
-broken (suc more) head (x ∷ left) some none =
-    ap (λ (b : Bool). step_from (cond b (Some (planes_at head (drop 6 (x ∷ left)), drop (6 + planes_count head) (x ∷ left))) None)) none
-
-broken_full : (more : ℕ) (head : FilmHead) (left : List ℕ) → more ≡ 0 → 0 < length left → frame_step more head left ≡ Broken Form
-unfolding frame_step
-broken_full more head [] full some = absurd (omega arith)
-broken_full zero head (x ∷ left) full some = refl
-broken_full (suc more) head (x ∷ left) full some = absurd (omega arith)
-
-comes : (more : ℕ) (head : FilmHead) (left : List ℕ) → 0 < more → 0 < length left → has_picture head left ≡ true → frame_step more head left ≡ Next (planes_at head (drop 6 left)) (drop (6 + planes_count head) left)
-unfolding frame_step read_picture
-comes more head [] room some is = absurd (omega arith)
-comes zero head (x ∷ left) room some is = absurd (omega arith)
-comes (suc more) head (x ∷ left) room some is =
-    ap (λ (b : Bool). step_from (cond b (Some (planes_at head (drop 6 (x ∷ left)), drop (6 + planes_count head) (x ∷ left))) None)) is
+or_false : (b : Bool) → (b || false) ≡ b
+or_false true = refl
+or_false false = refl
 
 and_false : (b : Bool) → (b && false) ≡ false
 and_false true = refl
 and_false false = refl
 
-some_left : (n room : ℕ) (left : List ℕ) → n ≡ min room (length left) → n ≢ 0 → 0 < length left
-some_left n room left is some = go (length left) is
+-- where there is a line, only its bytes tell whether it is one
+like_line : (left : List ℕ) → has_line left ≡ true → is_no_frame left ≡ is_unlike_frame left
+like_line left has =
+    ap (λ (b : Bool). is_unlike_frame left || (nat_le most_line (length left) && not b)) has
+    ∙ ap (λ (b : Bool). is_unlike_frame left || b) (and_false (nat_le most_line (length left))) ∙ or_false (is_unlike_frame left)
+
+-- and where the input ends before
+like_short : (left : List ℕ) → length left < most_line → is_no_frame left ≡ is_unlike_frame left
+like_short left short =
+    ap (λ (b : Bool). is_unlike_frame left || (b && not (has_line left))) (test most_line (length left) short) ∙ or_false (is_unlike_frame left)
   where
-    go : (l : ℕ) → n ≡ min room l → 0 < l
-    go zero is = absurd (some (omega arith))
-    go (suc l) is = omega arith
+    test : (a b : ℕ) → b < a → nat_le a b ≡ false
+    test a b h = grind (arith, nat_tests)
 
-full_told : (more n room : ℕ) (head : FilmHead) (buf : List ℕ) (o : Option (List ℕ)) → more ≡ 0 → n ≢ 0 → Read room n buf o → IfSome o (λ left. frame_step more head left ≡ Broken Form)
-full_told more n room head buf None full some read = tt
-full_told more n room head buf (Some left) full some read = broken_full more head left full (some_left n room left read.0 some)
-
--- no picture may come
-pub frame_full : (more n room : ℕ) (head : FilmHead) (buf : List ℕ) (first last : Seen) → more ≡ 0 → n ≢ 0 → Read room n buf first.input.bytes → last ≡ took Input n first
-    → TookSome (λ left. frame_step more head left ≡ Broken Form) first last
-frame_full more n room head buf first last full some read change = (n, record { change = change; content = full_told more n room head buf first.input.bytes full some read })
-
-unlike_told : (more n room : ℕ) (head : FilmHead) (buf : List ℕ) (o : Option (List ℕ)) → room ≡ 6 → n ≢ 0 → starts_with nat_eq (take n buf) frame_line ≡ false → Read room n buf o
-    → IfSome o (λ left. frame_step more head left ≡ Broken Form)
-unlike_told more n room head buf None is some unlike read = tt
-unlike_told more n room head buf (Some left) is some unlike read =
-    let e : n ≡ min 6 (length left) = read.0 ∙ ap (λ k. min k (length left)) is in
-    broken more head left (some_left n room left read.0 some)
-    (ap (λ b. b && nat_le (6 + planes_count head) (length left)) (sym (starts_read 6 n buf left frame_line refl e read.1) ∙ unlike))
-
--- the line isn't there
-pub frame_unlike : (more n room : ℕ) (head : FilmHead) (buf : List ℕ) (first last : Seen) → room ≡ 6 → n ≢ 0 → starts_with nat_eq (take n buf) frame_line ≡ false → Read room n buf first.input.bytes → last ≡ took Input n first
-    → TookSome (λ left. frame_step more head left ≡ Broken Form) first last
-frame_unlike more n room head buf first last is some unlike read change = (n, record { change = change; content = unlike_told more n room head buf first.input.bytes is some unlike read })
-
--- the line is there, and then too little
-short_told : (more n room : ℕ) (head : FilmHead) (buf : List ℕ) (o : Option (List ℕ)) → room ≡ 6 → n ≡ 6 → starts_with nat_eq (take n buf) frame_line ≡ true → Read room n buf o
-    → IfSome (option_map (drop n) o) (λ l. length l < planes_count head) → IfSome o (λ left. frame_step more head left ≡ Broken Form)
-short_told more n room head buf None is six like read few = tt
-short_told more n room head buf (Some left) is six like read few =
-    broken more head left (some_left n room left read.0 (λ z. absurd (omega arith)))
-    (ap (λ b. starts_with nat_eq left frame_line && b) (short (length left) (planes_count head) (length (drop n left)) (length-drop n left) few) ∙ and_false (starts_with nat_eq left frame_line))
+-- a line that is too long
+no_frame_long : (left : List ℕ) → most_line ≤ length left → has_line left ≡ false → is_no_frame left ≡ true
+no_frame_long left long has =
+    ap₂ (λ (a b : Bool). is_unlike_frame left || (a && not b)) (test most_line (length left) long) has ∙ or_true (is_unlike_frame left)
   where
-    short : (l p d : ℕ) → d ≡ l - n → d < p → nat_le (6 + p) l ≡ false
-    short l p d e h = grind (arith, nat_tests)
+    test : (a b : ℕ) → a ≤ b → nat_le a b ≡ true
+    test a b h = grind (arith, nat_tests)
 
-pub frame_short : (more n room : ℕ) (head : FilmHead) (buf : List ℕ) (first mid last : Seen) → room ≡ 6 → n ≡ 6 → starts_with nat_eq (take n buf) frame_line ≡ true → Read room n buf first.input.bytes → mid ≡ took Input n first
-    → TookSome (λ l. length l < planes_count head) mid last → TookSome (λ left. frame_step more head left ≡ Broken Form) first last
-frame_short more n room head buf first mid last is six like read change few = (
-  n + few.0,
-  record {
-    change = read_step n few.0 first mid last change few.1.change;
-    content = short_told more n room head buf first.input.bytes is six like read (subst (λ (s : Seen). IfSome s.input.bytes (λ l. length l < planes_count head)) change few.1.content);
-  },
-)
+    or_true : (b : Bool) → (b || true) ≡ true
+    or_true true = refl
+    or_true false = refl
 
--- a picture
-whole_told : (more n room : ℕ) (head : FilmHead) (planes : Planes) (buf : List ℕ) (o : Option (List ℕ)) → room ≡ 6 → n ≡ 6 → 0 < more → starts_with nat_eq (take n buf) frame_line ≡ true → Read room n buf o
-    → IfSome (option_map (drop n) o) (λ l. (planes_count head ≤ length l) × (planes ≡ planes_at head l))
-    → IfSome o (λ left. (6 + planes_count head ≤ length left) × (frame_step more head left ≡ Next planes (drop (6 + planes_count head) left)))
-whole_told more n room head planes buf None is six room' like read all = tt
-whole_told more n room head planes buf (Some left) is six some like read all =
-    let e : n ≡ min 6 (length left) = read.0 ∙ ap (λ k. min k (length left)) is in
-    let long : 6 + planes_count head ≤ length left = enough (length left) (planes_count head) (length (drop n left)) (length-drop n left) all.0 (six_left (length left) e) in
-    let has : has_picture head left ≡ true =
-    ap (λ b. b && nat_le (6 + planes_count head) (length left)) (sym (starts_read 6 n buf left frame_line refl e read.1) ∙ like) ∙ test (6 + planes_count head) (length left) long in (
+-- ---- no picture
+
+long_told : (number : ℕ) (head : FilmHead) (line : List ℕ) (o : Option (List ℕ)) → number < most_pictures → IfSome o (LongLine line) → IfSome o (λ left. frame_step (most_pictures - number) head left ≡ Broken (faults.NotFrame number))
+long_told number head line None room told = tt
+long_told number head line (Some left) room told = step_is number head left room (omega (arith, told.0)) ∙ frame_none number head left (no_frame_long left told.0 told.1)
+
+pub frame_long : (number : ℕ) (head : FilmHead) (line : List ℕ) (first last : Seen) → number < most_pictures → Took most_line (LongLine line) first last → FrameEnd head number first last (NotFrame number)
+frame_long number head line first last room t = (refl, (most_line, record { change = t.change; content = long_told number head line first.input.bytes room t.content }))
+
+unlike_told : (number n : ℕ) (head : FilmHead) (line : List ℕ) (o : Option (List ℕ)) → number < most_pictures → is_unlike_frame (take n line) ≡ true → IfSome o (WholeLine n line)
+    → IfSome o (λ left. frame_step (most_pictures - number) head left ≡ Broken (faults.NotFrame number))
+unlike_told number n head line None room unlike told = tt
+unlike_told number n head line (Some left) room unlike told =
+    step_is number head left room (omega (arith, told.0, told.2))
+    ∙ frame_none number head left (like_line left told.1 ∙ sym (line_tells n left told.0 told.1 told.2) ∙ ap is_unlike_frame (sym told.3) ∙ unlike)
+
+pub frame_unlike : (number n : ℕ) (head : FilmHead) (line : List ℕ) (first last : Seen) → number < most_pictures → is_unlike_frame (take n line) ≡ true → (1 ≤ n) × (n ≤ most_line) × Took n (WholeLine n line) first last
+    → FrameEnd head number first last (NotFrame number)
+frame_unlike number n head line first last room unlike t = (refl, (n, record { change = t.2.change; content = unlike_told number n head line first.input.bytes room unlike t.2.content }))
+
+-- ---- the input ended in the line
+
+cut_unlike : (number n : ℕ) (head : FilmHead) (line : List ℕ) (o : Option (List ℕ)) → number < most_pictures → n < most_line → 0 < length (take n line) → is_unlike_frame (take n line) ≡ true → IfSome o (CutLine n line)
+    → IfSome o (λ left. frame_step (most_pictures - number) head left ≡ Broken (faults.NotFrame number))
+cut_unlike number n head line None room most some unlike told = tt
+cut_unlike number n head line (Some left) room most some unlike told =
+    step_is number head left room (subst (λ (l : List ℕ). 0 < length l) told.2 some)
+    ∙ frame_none number head left (like_short left (omega (arith, told.0)) ∙ ap is_unlike_frame (sym told.2) ∙ unlike)
+
+cut_like : (number n : ℕ) (head : FilmHead) (line : List ℕ) (o : Option (List ℕ)) → number < most_pictures → n < most_line → 0 < length (take n line) → is_unlike_frame (take n line) ≡ false → IfSome o (CutLine n line)
+    → IfSome o (λ left. frame_step (most_pictures - number) head left ≡ Broken (faults.CutFrame number n))
+cut_like number n head line None room most some like told = tt
+cut_like number n head line (Some left) room most some like told =
+    step_is number head left room (subst (λ (l : List ℕ). 0 < length l) told.2 some)
+    ∙ frame_cut number head left (like_short left (omega (arith, told.0)) ∙ ap is_unlike_frame (sym told.2) ∙ like) (ap (λ (b : Bool). b && nat_le (frame_count head left) (length left)) told.1)
+    ∙ ap (λ (k : ℕ). Broken (faults.CutFrame number k)) told.0
+
+cut_faulty : (number n : ℕ) (head : FilmHead) (line : List ℕ) (r : Result Bool FrameFault) (first last : Seen) → number < most_pictures → n < most_line → length (take n line) ≡ n → Took n (CutLine n line) first last → CutEnd number (take n line) r
+    → IfErr r (FrameEnd head number first last)
+cut_faulty number n head line (Ok more) first last room most size t e = tt
+cut_faulty number n head line (Err TooLong) first last room most size t e = absurd e
+cut_faulty number n head line (Err ReadFault) first last room most size t e = absurd e
+cut_faulty number n head line (Err (NotFrame picture)) first last room most size t e =
+    subst (λ (k : ℕ). FrameEnd head number first last (NotFrame k)) (sym e.2)
+    (refl, (n, record { change = t.change; content = cut_unlike number n head line first.input.bytes room most e.0 e.1 t.content }))
+cut_faulty number n head line (Err (CutFrame picture got)) first last room most size t e =
+    subst (λ (k : ℕ). FrameEnd head number first last (CutFrame k got)) (sym e.2)
+    (subst (λ (k : ℕ). FrameEnd head number first last (CutFrame number k)) (sym (e.3 ∙ size))
+    (refl, record { change = t.change; content = cut_like number n head line first.input.bytes room most e.0 e.1 t.content }))
+
+front_long : (n : ℕ) (line : List ℕ) → length line ≡ 1024 → n < most_line → length (take n line) ≡ n
+front_long n line long most = length_front n line ∙ omega arith
+
+pub cut_fault : (number n : ℕ) (head : FilmHead) (line : List ℕ) (r : Result Bool FrameFault) (first last : Seen) → number < most_pictures → length line ≡ 1024 → (n < most_line) × Took n (CutLine n line) first last
+    → CutEnd number (take n line) r → IfErr r (FrameEnd head number first last)
+cut_fault number n head line r first last room long t e = cut_faulty number n head line r first last room t.0 (front_long n line long t.0) t.1 e
+
+never : (b : Bool) (X : Type 0) → b ≡ true → b ≡ false → X
+never b X t f = absurd (let n : true ≡ false = sym t ∙ f in cc)
+
+pub cut_never : (number : ℕ) (bytes : List ℕ) (r : Result Bool FrameFault) (X : Type 0) → CutEnd number bytes r → r ≡ Ok true → X
+cut_never number bytes (Ok more) X e is = never more X (let m : more ≡ true = cc in m) e.0
+cut_never number bytes (Err fault) X e is = absurd (cc)
+
+over_told : (n : ℕ) (line : List ℕ) (o : Option (List ℕ)) → take n line ≡ [] → IfSome o (CutLine n line) → IfSome o (λ left. left ≡ [])
+over_told n line None none told = tt
+over_told n line (Some left) none told = sym told.2 ∙ none
+
+pub cut_over : (number n : ℕ) (line : List ℕ) (r : Result Bool FrameFault) (first last : Seen) → length line ≡ 1024 → (n < most_line) × Took n (CutLine n line) first last → CutEnd number (take n line) r → r ≡ Ok false
+    → Took 0 (λ left. left ≡ []) first last
+cut_over number n line (Err fault) first last long t e is = absurd (cc)
+cut_over number n line (Ok more) first last long t e is =
+    let zero_long : n ≡ 0 = sym (front_long n line long t.0) ∙ ap (λ (l : List ℕ). length l) e.1 in
+    record { change = t.1.change ∙ ap (λ (k : ℕ). took Input k first) zero_long; content = over_told n line first.input.bytes e.1 t.1.content }
+
+-- ---- the picture
+
+whole_told : (number n : ℕ) (head : FilmHead) (line : List ℕ) (planes : Planes) (o : Option (List ℕ)) → number < most_pictures → is_unlike_frame (take n line) ≡ false → IfSome o (WholeLine n line)
+    → IfSome (option_map (drop n) o) (λ left. (planes_count head ≤ length left) × (planes ≡ padded head (planes_at head left)))
+    → IfSome o (λ left. (n + planes_count head ≤ length left) × (frame_step (most_pictures - number) head left ≡ Next planes (drop (n + planes_count head) left)))
+whole_told number n head line planes None room like told all = tt
+whole_told number n head line planes (Some left) room like told all =
+    let long : n + planes_count head ≤ length left = enough (length left) (length (drop n left)) (planes_count head) (length-drop n left) told.0 all.0 in
+    let count : frame_count head left ≡ n + planes_count head = ap (λ (k : ℕ). k + planes_count head) told.2 in (
       long,
-      comes more head left some (some_left n room left read.0 (λ z. absurd (omega arith))) has
-          ∙ ap (λ (p : Planes). Next p (drop (6 + planes_count head) left)) (ap (λ (k : ℕ). planes_at head (drop k left)) (sym six) ∙ sym all.1),
+      step_is number head left room (omega (arith, told.0, told.2))
+          ∙ frame_next number head left (like_line left told.1 ∙ sym (line_tells n left told.0 told.1 told.2) ∙ ap is_unlike_frame (sym told.3) ∙ like)
+          (ap₂ (λ (a b : Bool). a && b) told.1 (test (frame_count head left) (length left) (omega (arith, long, count))))
+          ∙ ap₂ (λ (k m : ℕ). Next (padded head (planes_at head (drop k left))) (drop m left)) told.2 count
+          ∙ ap (λ (p : Planes). Next p (drop (n + planes_count head) left)) (sym all.1),
     )
   where
-    six_left : (l : ℕ) → n ≡ min 6 l → 6 ≤ l
-    six_left l e = omega arith
+    enough : (l d p : ℕ) → d ≡ l - n → n ≤ l → p ≤ d → n + p ≤ l
+    enough l d p e h k = omega arith
 
-    enough : (l p d : ℕ) → d ≡ l - n → p ≤ d → 6 ≤ l → 6 + p ≤ l
-    enough l p d e h k = omega arith
+    test : (a b : ℕ) → a ≤ b → nat_le a b ≡ true
+    test a b h = grind (arith, nat_tests)
 
-    test : (x y : ℕ) → x ≤ y → nat_le x y ≡ true
-    test x y h = grind (arith, nat_tests)
-
-pub frame_whole : (more n room : ℕ) (head : FilmHead) (planes : Planes) (buf : List ℕ) (first mid last : Seen) → room ≡ 6 → n ≡ 6 → 0 < more → starts_with nat_eq (take n buf) frame_line ≡ true → Read room n buf first.input.bytes
-    → mid ≡ took Input n first → Took (planes_count head) (λ l. (planes_count head ≤ length l) × (planes ≡ planes_at head l)) mid last
-    → (k : ℕ) × Took k (λ left. (k ≤ length left) × (frame_step more head left ≡ Next planes (drop k left))) first last
-frame_whole more n room head planes buf first mid last is six some like read change all = (
-  6 + planes_count head,
+pub frame_whole : (number n : ℕ) (head : FilmHead) (line : List ℕ) (planes : Planes) (r : Result Bool FrameFault) (first mid last : Seen) → number < most_pictures → is_unlike_frame (take n line) ≡ false
+    → (1 ≤ n) × (n ≤ most_line) × Took n (WholeLine n line) first mid → PlanesEnd head number n planes mid last r → r ≡ Ok true
+    → (k : ℕ) × Took k (λ left. (k ≤ length left) × (frame_step (most_pictures - number) head left ≡ Next planes (drop k left))) first last
+frame_whole number n head line planes (Err fault) first mid last room like t e is = absurd (cc)
+frame_whole number n head line planes (Ok more) first mid last room like t e is = (
+  n + planes_count head,
   record {
-    change = read_step n (planes_count head) first mid last change all.change ∙ ap (λ (k : ℕ). took Input (k + planes_count head) first) six;
-    content = whole_told more n room head planes buf first.input.bytes is six some like read
-        (subst (λ (s : Seen). IfSome s.input.bytes (λ l. (planes_count head ≤ length l) × (planes ≡ planes_at head l))) change all.content);
+    change = read_step n (planes_count head) first mid last t.2.change e.1.change;
+    content = whole_told number n head line planes first.input.bytes room like t.2.content
+        (subst (λ (s : Seen). IfSome s.input.bytes (λ left. (planes_count head ≤ length left) × (planes ≡ padded head (planes_at head left)))) t.2.change e.1.content);
   },
 )
 
-pub whole_line : (n room : ℕ) (buf : List ℕ) → 6 ≤ length (take n buf) → n ≤ room → room ≡ 6 → n ≡ 6
-whole_line n room buf long within is = go (length (take n buf)) (front n buf) long
-  where
-    front : (n : ℕ) (buf : List ℕ) → length (take n buf) ≤ n
-    front n buf = grind (arith, common_steps)
+pub frame_never_over : (head : FilmHead) (number n : ℕ) (planes : Planes) (mid last : Seen) (r : Result Bool FrameFault) (X : Type 0) → PlanesEnd head number n planes mid last r → r ≡ Ok false → X
+frame_never_over head number n planes mid last (Ok more) X e is = never more X e.0 (let m : more ≡ false = cc in m)
+frame_never_over head number n planes mid last (Err fault) X e is = absurd (cc)
 
-    go : (l : ℕ) → l ≤ n → 6 ≤ l → n ≡ 6
-    go l a b = omega arith
+short_told : (number n m : ℕ) (head : FilmHead) (line : List ℕ) (o : Option (List ℕ)) → number < most_pictures → is_unlike_frame (take n line) ≡ false → m < planes_count head → IfSome o (WholeLine n line)
+    → IfSome (option_map (drop n) o) (λ left. length left ≡ m) → IfSome o (λ left. frame_step (most_pictures - number) head left ≡ Broken (faults.CutFrame number (n + m)))
+short_told number n m head line None room like few told short = tt
+short_told number n m head line (Some left) room like few told short =
+    let size : length left ≡ n + m = sum (length left) (length (drop n left)) (length-drop n left) told.0 short in
+    let count : frame_count head left ≡ n + planes_count head = ap (λ (k : ℕ). k + planes_count head) told.2 in
+    step_is number head left room (omega (arith, told.0, told.2))
+    ∙ frame_cut number head left (like_line left told.1 ∙ sym (line_tells n left told.0 told.1 told.2) ∙ ap is_unlike_frame (sym told.3) ∙ like)
+    (ap₂ (λ (a b : Bool). a && b) told.1 (test (frame_count head left) (length left) (omega (arith, size, count, few))))
+    ∙ ap (λ (k : ℕ). Broken (faults.CutFrame number k)) size
+  where
+    sum : (l d : ℕ) → d ≡ l - n → n ≤ l → d ≡ m → l ≡ n + m
+    sum l d e h k = omega arith
+
+    test : (a b : ℕ) → b < a → nat_le a b ≡ false
+    test a b h = grind (arith, nat_tests)
+
+line_within : (left : List ℕ) → length (line_of left) ≤ length left
+line_within left = front (position_or_len is_line_feed (take most_line left)) most_line left
+  where
+    front : (p m : ℕ) (xs : List ℕ) → length (take p (take m xs)) ≤ length xs
+    front p m xs = grind (arith, common_steps)
+
+planes_unread : (n m : ℕ) (head : FilmHead) (line : List ℕ) (o : Option (List ℕ)) → m < planes_count head → IfSome o (WholeLine n line) → IfSome (option_map (drop n) o) (λ left. m ≤ length left)
+    → IfSome o (λ left. (n + m ≤ length left) × (n + m < frame_count head left))
+planes_unread n m head line None few told there = tt
+planes_unread n m head line (Some left) few told there = (
+  sum (length left) (length (drop n left)) (length-drop n left) told.0 there,
+  less (length (line_of left)) (planes_count head) told.2 few,
+)
+  where
+    sum : (l d : ℕ) → d ≡ l - n → n ≤ l → m ≤ d → n + m ≤ l
+    sum l d e h k = omega arith
+
+    less : (a p : ℕ) → a + 1 ≡ n → m < p → n + m < a + 1 + p
+    less a p e h = omega arith
+
+pub frame_fault : (number n : ℕ) (head : FilmHead) (line : List ℕ) (planes : Planes) (r : Result Bool FrameFault) (first mid last : Seen) → number < most_pictures → is_unlike_frame (take n line) ≡ false
+    → (1 ≤ n) × (n ≤ most_line) × Took n (WholeLine n line) first mid → PlanesEnd head number n planes mid last r → IfErr r (FrameEnd head number first last)
+frame_fault number n head line planes (Ok more) first mid last room like t e = tt
+frame_fault number n head line planes (Err (NotFrame picture)) first mid last room like t e = absurd e
+frame_fault number n head line planes (Err TooLong) first mid last room like t e = absurd e
+frame_fault number n head line planes (Err ReadFault) first mid last room like t e = record {
+  count = n + e.count;
+  few = omega (arith, e.few, t.1);
+  told = planes_unread n e.count head line first.input.bytes e.few t.2.content (subst (λ (s : Seen). IfSome s.input.bytes (λ left. e.count ≤ length left)) t.2.change e.there);
+  failed = subst (λ (s : Seen). LaterFailed Input s last) (ap (took Input e.count) t.2.change ∙ took_more n e.count first) e.failed;
+}
+frame_fault number n head line planes (Err (CutFrame picture got)) first mid last room like t e =
+    subst (λ (k : ℕ). FrameEnd head number first last (CutFrame k got)) (sym e.0)
+    (subst (λ (k : ℕ). FrameEnd head number first last (CutFrame number k)) (sym e.2) (
+      refl,
+      record {
+        change = read_step n e.1 first mid last t.2.change e.4.change;
+        content = short_told number n e.1 head line first.input.bytes room like e.3 t.2.content (subst (λ (s : Seen). IfSome s.input.bytes (λ left. length left ≡ e.1)) t.2.change e.4.content);
+      },
+    ))
+
+-- a read failed in the line
+line_told : (head : FilmHead) (n : ℕ) (o : Option (List ℕ)) → IfSome o (λ left. n ≤ length (line_of left)) → IfSome o (λ left. (n ≤ length left) × (n < frame_count head left))
+line_told head n None told = tt
+line_told head n (Some left) told = (omega (arith, told, line_within left), less (length (line_of left)) (planes_count head) told)
+  where
+    less : (a p : ℕ) → n ≤ a → n < a + 1 + p
+    less a p h = omega arith
+
+pub frame_unread : (head : FilmHead) (first last : Seen) → LineUnread first last → FrameUnread head first last
+frame_unread head first last u = record { count = u.count; few = omega (arith, u.few); told = line_told head u.count first.input.bytes u.told; failed = u.failed }
+
+-- ---- behind the last picture
+
+over_bytes : (n room : ℕ) (buf : List ℕ) (o : Option (List ℕ)) → room ≡ 1 → n ≡ 0 → Read room n buf o → IfSome o (λ left. left ≡ [])
+over_bytes n room buf None one none read = tt
+over_bytes n room buf (Some []) one none read = refl
+over_bytes n room buf (Some (x ∷ left)) one none read = absurd (omega (arith, read.0))
+
+pub film_over : (n room : ℕ) (buf : List ℕ) (first last : Seen) → room ≡ 1 → n ≡ 0 → Read room n buf first.input.bytes → last ≡ took Input n first → Took 0 (λ left. left ≡ []) first last
+film_over n room buf first last one none read change = record { change = change ∙ ap (λ (k : ℕ). took Input k first) none; content = over_bytes n room buf first.input.bytes one none read }
+
+more_bytes : (n room : ℕ) (head : FilmHead) (buf : List ℕ) (o : Option (List ℕ)) → room ≡ 1 → n ≡ 1 → Read room n buf o → IfSome o (λ left. frame_step (most_pictures - 1000000) head left ≡ Broken faults.TooLong)
+unfolding frame_step
+more_bytes n room head buf None one some read = tt
+more_bytes n room head buf (Some []) one some read = absurd (omega (arith, read.0))
+more_bytes n room head buf (Some (x ∷ left)) one some read = refl
+
+pub film_long : (n room : ℕ) (head : FilmHead) (buf : List ℕ) (first last : Seen) → room ≡ 1 → n ≡ 1 → Read room n buf first.input.bytes → last ≡ took Input n first → FrameEnd head 1000000 first last TooLong
+film_long n room head buf first last one some read change =
+    (refl, record { change = change ∙ ap (λ (k : ℕ). took Input k first) some; content = more_bytes n room head buf first.input.bytes one some read })
+
+none_told : (head : FilmHead) (n : ℕ) (o : Option (List ℕ)) → n ≡ 0 → IfSome o (λ left. (n ≤ length left) × (n < frame_count head left))
+none_told head n None none = tt
+none_told head n (Some left) none = (omega arith, less (length (line_of left)) (planes_count head))
+  where
+    less : (a p : ℕ) → n < a + 1 + p
+    less a p = omega arith
+
+pub film_unread : (room : ℕ) (head : FilmHead) (first last : Seen) → room ≡ 1 → ReadFailedWithin room first last → FrameUnread head first last
+film_unread room head first last one f =
+    let none : f.count ≡ 0 = omega (arith, f.few) in
+    record { count = f.count; few = omega (arith, none); told = none_told head f.count first.input.bytes none; failed = f.failed }
+
+-- ---- by the fault of the input
+
+some_fault : (a b : InputFault) → Some a ≡ Some b → a ≡ b
+some_fault a b e = cc
+
+pub broken_of : (head : FilmHead) (number : ℕ) (fault : FrameFault) (f : InputFault) (first last : Seen) → input_fault fault ≡ Some f → FrameEnd head number first last fault
+    → TookSome (λ left. frame_step (most_pictures - number) head left ≡ Broken f) first last
+broken_of head number (NotFrame picture) f first last is e = subst (λ (x : InputFault). TookSome (λ left. frame_step (most_pictures - number) head left ≡ Broken x) first last) (some_fault (faults.NotFrame picture) f is) e.1
+broken_of head number (CutFrame picture got) f first last is e = subst (λ (x : InputFault). TookSome (λ left. frame_step (most_pictures - number) head left ≡ Broken x) first last) (some_fault (faults.CutFrame picture got) f is) (got, e.1)
+broken_of head number TooLong f first last is e = subst (λ (x : InputFault). TookSome (λ left. frame_step (most_pictures - number) head left ≡ Broken x) first last) (some_fault faults.TooLong f is) (1, e.1)
+broken_of head number ReadFault f first last is e = absurd (cc)
+
+pub unread_of : (head : FilmHead) (number : ℕ) (fault : FrameFault) (first last : Seen) → input_fault fault ≡ None → FrameEnd head number first last fault → ReadFailed first last
+unread_of head number (NotFrame picture) first last is e = absurd (cc)
+unread_of head number (CutFrame picture got) first last is e = absurd (cc)
+unread_of head number TooLong first last is e = absurd (cc)
+unread_of head number ReadFault first last is e = (e.count, e.failed)

@@ -1,8 +1,12 @@
-pub mod Lines
-pub mod Filling
+pub mod LineBytes
+pub mod Joining
+pub mod Widening
 pub mod Texts
+pub mod Sayings
 pub mod Frames
+pub mod Heads
 pub mod Fits
 pub mod Appending
+pub mod Planes
 pub mod Remaining
 pub mod Behind

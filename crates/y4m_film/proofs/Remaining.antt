@@ -6,7 +6,7 @@ use Rattle.enc_edge.specs.Seen.{Seen}
 use Rattle.enc_edge.specs.Reads.{Took, TookSome}
 use Rattle.enc_edge.proofs.Spots.{drop_more}
 use Rattle.spec_film.specs.declared.FilmHead.{FilmHead}
-use Rattle.spec_film.specs.declared.InputFault.TheVariants.{Form}
+use Rattle.spec_film.specs.declared.InputFault.{InputFault}
 use Rattle.spec_film.specs.Films.{Planes, FilmEnd, Ended, Faulty, Over, Next, Broken, most_pictures, frame_step, pictures_of}
 use Rattle.spec_film.proofs.FilmLaws.{pictures_over, pictures_broken, pictures_next, next_none}
 use Rattle.y4m_film.specs.Taken.{PicturesTaken}
@@ -92,22 +92,22 @@ pub none_left : (n : ℕ) (o : Option (List ℕ)) → IfSome (option_map (drop n
 none_left n None none = tt
 none_left n (Some left) none = none
 
-pub remains_broken : (head : FilmHead) (number n : ℕ) (pictures : List Planes) (o : Option (List ℕ)) → IfSome o (Remains head number n pictures)
-    → IfSome (option_map (drop n) o) (λ left. frame_step (most_pictures - number) head left ≡ Broken Form) → IfSome o (λ left. pictures_of most_pictures head left ≡ (pictures, Faulty Form))
-remains_broken head number n pictures None r broken = tt
-remains_broken head number n pictures (Some left) r broken =
-    ends_so head number n pictures (Faulty Form) left r (pictures_broken (most_pictures - number) head (drop n left) Form broken)
+pub remains_broken : (head : FilmHead) (number n : ℕ) (pictures : List Planes) (fault : InputFault) (o : Option (List ℕ)) → IfSome o (Remains head number n pictures)
+    → IfSome (option_map (drop n) o) (λ left. frame_step (most_pictures - number) head left ≡ Broken fault) → IfSome o (λ left. pictures_of most_pictures head left ≡ (pictures, Faulty fault))
+remains_broken head number n pictures fault None r broken = tt
+remains_broken head number n pictures fault (Some left) r broken =
+    ends_so head number n pictures (Faulty fault) left r (pictures_broken (most_pictures - number) head (drop n left) fault broken)
 
 pub of_both : (P Q : List ℕ → Type 0) (o : Option (List ℕ)) → IfSome o (λ left. P left × Q left) → IfSome o Q
 of_both P Q None both = tt
 of_both P Q (Some left) both = both.1
 
 -- where no picture may come, none comes
-pub never_next : (head : FilmHead) (n : ℕ) (planes : Planes) (old new : Seen) → Took n (λ left. (n ≤ length left) × (frame_step 0 head left ≡ Next planes (drop n left))) old new
-    → TookSome (λ left. frame_step 0 head left ≡ Broken Form) old new
-never_next head n planes old new t = (n, record { change = t.change; content = go old.input.bytes t.content })
+pub never_next : (head : FilmHead) (n : ℕ) (planes : Planes) (fault : InputFault) (old new : Seen) → Took n (λ left. (n ≤ length left) × (frame_step 0 head left ≡ Next planes (drop n left))) old new
+    → TookSome (λ left. frame_step 0 head left ≡ Broken fault) old new
+never_next head n planes fault old new t = (n, record { change = t.change; content = go old.input.bytes t.content })
   where
-    go : (o : Option (List ℕ)) → IfSome o (λ left. (n ≤ length left) × (frame_step 0 head left ≡ Next planes (drop n left))) → IfSome o (λ left. frame_step 0 head left ≡ Broken Form)
+    go : (o : Option (List ℕ)) → IfSome o (λ left. (n ≤ length left) × (frame_step 0 head left ≡ Next planes (drop n left))) → IfSome o (λ left. frame_step 0 head left ≡ Broken fault)
     go None t = tt
     go (Some left) t = absurd (next_none head left planes (drop n left) t.1)
 

@@ -1,11 +1,11 @@
 -- The film that stands in the input.
-use Rattle.std.specs.Prelude.{ℕ, ◌≡◌, ◌-◌, ◌++◌, List, length, drop, Some}
+use Rattle.std.specs.Prelude.{ℕ, ◌≡◌, ◌-◌, ◌++◌, List, length, drop, Some, Ok}
 use Rattle.spec_film.specs.declared.FilmHead.{FilmHead}
 use Rattle.spec_film.specs.Films.{Planes, FilmEnd, most_pictures, read_head, pictures_of, film_of}
 
 -- the first n bytes are the line of this head
 abbrev pub HeadIs : FilmHead → ℕ → List ℕ → Type 0
-HeadIs head n left = read_head left ≡ Some (head, drop n left)
+HeadIs head n left = read_head left ≡ Ok (head, drop n left)
 
 -- the first n bytes are this head and these pictures of a film: its other pictures are those of the bytes behind, and it ends as these end
 pub record FilmTaken (left : List ℕ) (n : ℕ) (head : FilmHead) (pictures : List Planes) : Type 0 where

@@ -1,24 +1,35 @@
-use Rattle.std.proofs.Common.{ap, sym, ◌∙◌, Ok, take}
-use Rattle.spec_film.proofs.FilmLaws.{line_allowed}
-use Rattle.y4m_film.proofs.Lines.{head_none, head_bad, head_good}
+use Rattle.std.proofs.Common.{take}
+use Rattle.y4m_film.specs.declared.lines.LineEnd.TheVariants.{Whole, Cut, Long}
+use Rattle.y4m_film.proofs.LineBytes.{by_end}
+use Rattle.y4m_film.proofs.Heads.{head_ok, head_fault, head_never, line_allowed, head_cut, head_long}
 use Rattle.y4m_film.proofs.head.read_head.Goals as goal
 
-pub returns-in-Ok-None-clause-form : goal.returns-in-Ok-None-clause-form
-returns-in-Ok-None-clause-form g c =
+pub returns-in-Ok-Whole-clause-ok : goal.returns-in-Ok-Whole-clause-ok
+returns-in-Ok-Whole-clause-ok g c =
     let seen = g.S.Studio.seen in
-    λ _. head_none (seen c.args.studio.now) (seen c.read_line.new.studio) (c.in-Ok-None.ensures.none (ap (λ o. Ok o) c.in-Ok-None.field-0-is))
+    head_ok c.in-Ok-Whole.length c.read_line.new.line c.head_of_line.result (seen c.args.studio.now) (seen c.read_line.new.studio) c.head_of_line.ensures
+    (by_end c.read_line.new.line (seen c.args.studio.now) (seen c.read_line.new.studio) c.in-Ok-Whole.field-0 (Whole c.in-Ok-Whole.length) c.in-Ok-Whole.field-0-is c.in-Ok-Whole.ensures.line)
 
-pub returns-in-Some-clause-ok : goal.returns-in-Some-clause-ok
-returns-in-Some-clause-ok g c =
+pub returns-in-Ok-Whole-clause-allowed : goal.returns-in-Ok-Whole-clause-allowed
+returns-in-Ok-Whole-clause-allowed g c = line_allowed (take c.in-Ok-Whole.length c.read_line.new.line) c.head_of_line.result c.head_of_line.ensures
+
+pub returns-in-Ok-Whole-clause-read : goal.returns-in-Ok-Whole-clause-read
+returns-in-Ok-Whole-clause-read g c = λ e. head_never (take c.in-Ok-Whole.length c.read_line.new.line) c.head_of_line.result _ c.head_of_line.ensures e
+
+pub returns-in-Ok-Whole-clause-fault : goal.returns-in-Ok-Whole-clause-fault
+returns-in-Ok-Whole-clause-fault g c =
     let seen = g.S.Studio.seen in
-    head_good c.in-Ok-Some.length c.read_line.new.line c.head_of_line.result c.in-Some.head (seen c.args.studio.now) (seen c.read_line.new.studio) c.head_of_line.ensures c.in-Some.is
-    (rw c.in-Ok-Some.field-0-is at c.in-Ok-Some.ensures.line)
+    head_fault c.in-Ok-Whole.length c.read_line.new.line c.head_of_line.result (seen c.args.studio.now) (seen c.read_line.new.studio) c.head_of_line.ensures
+    (by_end c.read_line.new.line (seen c.args.studio.now) (seen c.read_line.new.studio) c.in-Ok-Whole.field-0 (Whole c.in-Ok-Whole.length) c.in-Ok-Whole.field-0-is c.in-Ok-Whole.ensures.line)
 
-pub returns-in-Some-clause-allowed : goal.returns-in-Some-clause-allowed
-returns-in-Some-clause-allowed g c = line_allowed (take c.in-Ok-Some.length c.read_line.new.line) c.in-Some.head (sym c.head_of_line.ensures ∙ c.in-Some.is)
-
-pub returns-in-None-clause-form : goal.returns-in-None-clause-form
-returns-in-None-clause-form g c =
+pub returns-in-Ok-Cut-clause-fault : goal.returns-in-Ok-Cut-clause-fault
+returns-in-Ok-Cut-clause-fault g c =
     let seen = g.S.Studio.seen in
-    λ _. head_bad c.in-Ok-Some.length c.read_line.new.line c.head_of_line.result (seen c.args.studio.now) (seen c.read_line.new.studio) c.head_of_line.ensures c.in-None.is
-    (rw c.in-Ok-Some.field-0-is at c.in-Ok-Some.ensures.line)
+    λ _. head_cut c.in-Ok-Cut.field-0-0 c.read_line.new.line (seen c.args.studio.now) (seen c.read_line.new.studio)
+    (by_end c.read_line.new.line (seen c.args.studio.now) (seen c.read_line.new.studio) c.in-Ok-Cut.field-0 (Cut c.in-Ok-Cut.field-0-0) c.in-Ok-Cut.field-0-is c.in-Ok-Cut.ensures.line)
+
+pub returns-in-Ok-Long-clause-fault : goal.returns-in-Ok-Long-clause-fault
+returns-in-Ok-Long-clause-fault g c =
+    let seen = g.S.Studio.seen in
+    λ _. head_long c.read_line.new.line c.fault_of_long.result (seen c.args.studio.now) (seen c.read_line.new.studio) c.read_line.array_long c.fault_of_long.ensures
+    (by_end c.read_line.new.line (seen c.args.studio.now) (seen c.read_line.new.studio) c.in-Ok-Long.field-0 Long c.in-Ok-Long.field-0-is c.in-Ok-Long.ensures.line)

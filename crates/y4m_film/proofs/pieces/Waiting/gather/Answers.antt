@@ -1,5 +1,5 @@
 use Rattle.y4m_film.specs.Waits.{waits}
-use Rattle.y4m_film.proofs.Lines.{ok_both}
+use Rattle.y4m_film.proofs.LineBytes.{ok_both}
 use Rattle.y4m_film.proofs.Appending.{gathered_behind, gathered_written}
 use Rattle.y4m_film.proofs.pieces.Waiting.gather.Goals as goal
 

@@ -1,0 +1,6 @@
+use Rattle.y4m_film.proofs.Texts.{NoneBefore}
+use Rattle.spec_film.specs.Films.{is_colon}
+use Rattle.y4m_film.proofs.text.before_colon.Given as goal
+
+abbrev pub invariant-loop-i : goal.invariant-loop-i
+invariant-loop-i l = NoneBefore is_colon l.i l.text
