@@ -1,8 +1,11 @@
 -- What the end of an encoding, or of storing, is to the program; the exit status and the printed line of each answer.
-use Rattle.std.specs.Prelude.{ℕ, List, [], ◌++◌, codes, decimal, Result, Ok, Err}
+use Rattle.std.specs.Prelude.{ℕ, List, [], ◌++◌, codes, decimal, Option, Some, None, Result, Ok, Err}
 use Rattle.encode_film.specs.declared.ends.EncodeEnd.{EncodeEnd}
 use Rattle.encode_film.specs.declared.ends.EncodeEnd.TheVariants as ends
 use Rattle.enc_edge.specs.declared.studio.Out.TheVariants.{Stream}
+use Rattle.spec_film.specs.declared.InputFault.{InputFault}
+use Rattle.spec_film.specs.declared.InputFault.TheVariants.{Head, NotFrame, CutFrame, TooLong}
+use Rattle.spec_film.specs.Films.{most_pictures}
 use Rattle.store_film.specs.declared.ends.StoreEnd.{StoreEnd}
 use Rattle.store_film.specs.declared.ends.StoreEnd.TheVariants as store_ends
 use Rattle.encode_cli.specs.Names.{out_name, place_name}
@@ -38,11 +41,26 @@ status_of (Write out) = 7
 status_of (Open place) = 8
 status_of OutOfMemory = 9
 
+-- the number of the picture at which the input is refused, counted from 0; none where it is its head
+abbrev pub refused_picture : InputFault → Option ℕ
+refused_picture (Head fault) = None
+refused_picture (NotFrame picture) = Some picture
+refused_picture (CutFrame picture got) = Some picture
+refused_picture TooLong = Some most_pictures
+
+abbrev pub input_line_at : Option ℕ → List ℕ
+input_line_at None = codes "input refused"
+input_line_at (Some picture) = codes "input refused" ++ (codes " at picture " ++ decimal picture)
+
+-- the line of an input that is refused
+abbrev pub input_line : InputFault → List ℕ
+input_line fault = input_line_at (refused_picture fault)
+
 -- the line of an answer that has no number
 abbrev pub word_line : Outcome → List ℕ
 word_line Done = []
 word_line (Words fault) = codes "words refused"
-word_line (Input fault) = codes "input refused"
+word_line (Input fault) = []
 word_line (Setting fault) = codes "setting refused"
 word_line (Long picture) = []
 word_line Read = codes "read failed"
@@ -55,7 +73,7 @@ abbrev pub line_of : Outcome → List ℕ
 line_of (Long picture) = codes "picture " ++ (decimal picture ++ codes " too long")
 line_of Done = []
 line_of (Words fault) = codes "words refused"
-line_of (Input fault) = codes "input refused"
+line_of (Input fault) = input_line fault
 line_of (Setting fault) = codes "setting refused"
 line_of Read = codes "read failed"
 line_of (Write out) = codes "write failed: " ++ out_name out

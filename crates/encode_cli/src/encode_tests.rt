@@ -64,6 +64,27 @@ fn two_grey_pictures_in_two_slices(rt: HostRuntime) -> Result<(), Fail> {
     Ok(())
 }
 
+// A grey picture of 18 by 18 samples: four macroblocks, behind a sequence parameter set with cropping 0, 7, 0, 7.
+const CROPPED_UNIT: [u8; 42] = [
+    0x00, 0x00, 0x00, 0x01, 0x67, 0x64, 0x00, 0x33, 0xAC, 0x1B, 0x1A, 0x89, 0x78, 0x88, 0x84, 0x00,
+    0x00, 0x00, 0x01, 0x68, 0xEE, 0x38, 0xB0, 0x00, 0x00, 0x01, 0x65, 0x88, 0x80, 0x00, 0x40, 0x00,
+    0x02, 0xFF, 0xFE, 0xD6, 0xDC, 0xAD, 0x12, 0xED, 0x97, 0x80,
+];
+
+#[test]
+fn a_film_of_18_by_18_encoded(rt: HostRuntime) -> Result<(), Fail> {
+    let alloc = rt.alloc();
+    let mut film = b"YUV4MPEG2 W18 H18 F30000:1001 Ip A1:1 C420jpeg\nFRAME Ip\n".to_vec(alloc)?;
+    film.extend_from_slice(&[0x80; 486])?;
+    let mut studio = MemStudio::new(alloc, film, 1000, 4096, Vec::new(alloc))?;
+    assert_eq!(rt; run(&rt, &WORDS, &mut studio, &OpenGate), Outcome::Done);
+    assert_eq!(rt; studio.written(Out::Stream), CROPPED_UNIT.as_slice());
+    let mut shown = b"YUV4MPEG2 W18 H18 F30000:1001 Ip C420\nFRAME\n".to_vec(alloc)?;
+    shown.extend_from_slice(&[0x80; 486])?;
+    assert_eq!(rt; studio.written(Out::Recon), shown.as_slice());
+    Ok(())
+}
+
 #[test]
 fn too_many_slices(rt: HostRuntime) -> Result<(), Fail> {
     let alloc = rt.alloc();
@@ -85,10 +106,10 @@ fn a_film_cut_in_its_second_picture(rt: HostRuntime) -> Result<(), Fail> {
     let mut film = grey_film(alloc)?;
     film.extend_from_slice(b"FRAME\n\x80\x80")?;
     let mut studio = MemStudio::new(alloc, film, 1000, 4096, Vec::new(alloc))?;
-    assert_eq!(rt;
-        run(&rt, &WORDS, &mut studio, &OpenGate),
-        Outcome::Input(InputFault::Form)
-    );
+    let outcome = run(&rt, &WORDS, &mut studio, &OpenGate);
+    let cut = InputFault::CutFrame { picture: 1, got: 8 };
+    assert_eq!(rt; outcome, Outcome::Input(cut));
+    assert_eq!(rt; fault_line(&outcome).as_str(), "input refused at picture 1");
     assert_eq!(rt; studio.written(Out::Stream), UNIT.as_slice());
     assert!(rt; is_grey_recon(studio.written(Out::Recon)));
     Ok(())
@@ -116,11 +137,21 @@ fn places_in_order(rt: HostRuntime) -> Result<(), Fail> {
 }
 
 #[test]
-fn the_line_of_a_long_picture(rt: HostRuntime) -> Result<(), Fail> {
+fn lines_with_a_number(rt: HostRuntime) -> Result<(), Fail> {
     let long = Outcome::Long {
         picture: 4_294_967_295,
     };
     assert_eq!(rt; status(&long), 5);
     assert_eq!(rt; fault_line(&long).as_str(), "picture 4294967295 too long");
+    let unlike = Outcome::Input(InputFault::NotFrame {
+        picture: 4_294_967_295,
+    });
+    let line = "input refused at picture 4294967295";
+    assert_eq!(rt; fault_line(&unlike).as_str(), line);
+    let many = Outcome::Input(InputFault::TooLong);
+    assert_eq!(rt;
+        fault_line(&many).as_str(),
+        "input refused at picture 1000000"
+    );
     Ok(())
 }

@@ -1,6 +1,6 @@
 // How a run ends, and what the program tells of it.
 ghost use Rattle.std.specs.Prelude.{◌≡◌, ◌≤◌, length};
-ghost use Rattle.encode_cli.specs.Told.{line_of, outcome_of, status_of, stored_outcome, word_line};
+ghost use Rattle.encode_cli.specs.Told.{input_line, line_of, outcome_of, refused_picture, status_of, stored_outcome, word_line};
 
 use crate::command::WordFault;
 use arrayvec::ArrayString;
@@ -9,6 +9,7 @@ use encode_film::{EncodeEnd, SettingFault};
 use itoa::Buffer;
 use spec_film::InputFault;
 use store_film::StoreEnd;
+use y4m_film::MOST_PICTURES;
 
 /// How a run ends.
 #[derive(Clone, Copy, Debug, PartialEq, Eq)]
@@ -24,7 +25,7 @@ pub enum Outcome {
     Read,
     /// Writing or closing an output failed.
     Write(Out),
-    /// The input isn't a film.
+    /// The input isn't a film: its head is none, or a picture.
     Input(InputFault),
     /// A setting doesn't fit the film's head. No output was opened then.
     Setting(SettingFault),
@@ -90,9 +91,8 @@ fn line_text(outcome: &Outcome) -> &'static str
     ensures short { length result.now ≤ 96 }
 {
     match outcome {
-        Outcome::Done | Outcome::Long { .. } => "",
+        Outcome::Done | Outcome::Input(_) | Outcome::Long { .. } => "",
         Outcome::Words(_) => "words refused",
-        Outcome::Input(_) => "input refused",
         Outcome::Setting(_) => "setting refused",
         Outcome::Read => "read failed",
         Outcome::Write(Out::Stream) => "write failed: stream",
@@ -106,10 +106,38 @@ fn line_text(outcome: &Outcome) -> &'static str
     }
 }
 
+// The place in the input where it is refused: nothing for its head, else the picture's number, counted from 0.
+fn refused_picture(fault: &InputFault) -> Option<u32>
+    ensures { result ≡ refused_picture fault.now }
+{
+    match fault {
+        InputFault::Head(_) => None,
+        InputFault::NotFrame { picture } | InputFault::CutFrame { picture, .. } => Some(*picture),
+        InputFault::TooLong => Some(MOST_PICTURES),
+    }
+}
+
+// The line of an input that is refused.
+fn input_line(fault: &InputFault) -> ArrayString<96>
+    ensures { result.bytes ≡ input_line fault.now }
+{
+    let mut line = ArrayString::new();
+    line.push_str("input refused");
+    if let Some(picture) = refused_picture(fault) {
+        let mut number = Buffer::new();
+        line.push_str(" at picture ");
+        line.push_str(number.format(picture));
+    }
+    line
+}
+
 /// The line for standard error, without its line feed; empty where nothing is to be printed.
 pub fn fault_line(outcome: &Outcome) -> ArrayString<96>
     ensures { result.bytes ≡ line_of outcome.now }
 {
+    if let Outcome::Input(fault) = outcome {
+        return input_line(fault);
+    }
     let mut line = ArrayString::new();
     if let Outcome::Long { picture } = outcome {
         let mut number = Buffer::new();

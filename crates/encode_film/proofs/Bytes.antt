@@ -1,5 +1,5 @@
 -- What is written are bytes, and the pictures of a film are bytes.
-use Rattle.std.proofs.Common.{ℕ, zero, suc, ◌+◌, ◌*◌, ◌/◌, ◌%◌, ◌≡◌, Bool, true, false, List, [], ◌∷◌, drop, map, ap, ap₂, sym, ◌∙◌, subst, arith, mul_comm, lit≤}
+use Rattle.std.proofs.Common.{ℕ, zero, suc, ◌+◌, ◌*◌, ◌/◌, ◌≡◌, Bool, true, false, List, [], ◌∷◌, drop, map, ap, ap₂, ◌∙◌, subst, arith, mul_comm, lit≤}
 use Rattle.std.specs.List.{All}
 use Rattle.std.proofs.lemmas.List.Elements.{All-nil, All-append, All-take, All-drop}
 use Rattle.spec_bits.specs.Bits.{IsByte, bits_of_bytes, bytes_of_bits}
@@ -8,14 +8,14 @@ use Rattle.spec_bits.proofs.Payloads.{unit_bytes-are_bytes}
 use Rattle.spec_headers.specs.HeadFields.{sequence_payload, picture_payload}
 use Rattle.spec_bits.specs.Units.{unit_bytes}
 use Rattle.spec_film.specs.declared.FilmHead.{FilmHead}
-use Rattle.spec_film.specs.Films.{Planes, AllowedHead}
+use Rattle.spec_film.specs.Films.{Planes}
 use Rattle.spec_words.specs.declared.Settings.{Settings}
 use Rattle.spec_slice_payload.specs.Layer.{Format, Slice}
 use Rattle.spec_slice_payload.specs.Writing.{layer_payload}
 use Rattle.spec_decoder.specs.Sets.{across_of, down_of}
 use Rattle.spec_stream.specs.Pictures.{IsPicture}
-use Rattle.spec_decoder.specs.Output.{cropped, cropped_plane}
-use Rattle.spec_stream.proofs.PlaneLaws.{cropped_all}
+use Rattle.spec_film.specs.Padding.{padded_size}
+use Rattle.spec_film.specs.Cropping.{shown}
 use Rattle.spec_pictures.specs.Coded.{slice_units, picture_units}
 use Rattle.spec_decoder.specs.Macroblocks.{format_of}
 use Rattle.spec_encoding.specs.Frames.{picture_of}
@@ -71,9 +71,9 @@ samples_bytes p w all is small = rows_bytes p p.height (subst (All IsByte) (is �
 -- such a picture is a picture of the film
 pub picture_is : (h : FilmHead) (p : Picture) → FitsHead h p → All IsByte (samples_of p.y) → All IsByte (samples_of p.cb) → All IsByte (samples_of p.cr) → IsPicture h (planes_of p)
 picture_is h p fits luma cb cr = record {
-  luma = samples_length p.y ∙ ap₂ (λ a b. a * b) fits.luma_height fits.luma_width ∙ mul_comm h.height h.width;
-  cb = samples_length p.cb ∙ ap₂ (λ a b. a * b) fits.cb_height fits.cb_width ∙ mul_comm (h.height / 2) (h.width / 2);
-  cr = samples_length p.cr ∙ ap₂ (λ a b. a * b) fits.cr_height fits.cr_width ∙ mul_comm (h.height / 2) (h.width / 2);
+  luma = samples_length p.y ∙ ap₂ (λ a b. a * b) fits.luma_height fits.luma_width ∙ mul_comm (padded_size h.height) (padded_size h.width);
+  cb = samples_length p.cb ∙ ap₂ (λ a b. a * b) fits.cb_height fits.cb_width ∙ mul_comm (padded_size h.height / 2) (padded_size h.width / 2);
+  cr = samples_length p.cr ∙ ap₂ (λ a b. a * b) fits.cr_height fits.cr_width ∙ mul_comm (padded_size h.height / 2) (padded_size h.width / 2);
   luma_bytes = luma;
   cb_bytes = cb;
   cr_bytes = cr;
@@ -81,34 +81,8 @@ picture_is h p fits luma cb cr = record {
 
 -- CROPPING
 
-uncropped : (across width height : ℕ) (p : Plane) → across ≡ width → p.width ≡ width → p.height ≡ height → cropped_plane across width height (samples_of p) ≡ samples_of p
-uncropped across width height p same wide high =
-    ap (λ w. cropped_plane w width height (samples_of p)) same
-    ∙ cropped_all width height (samples_of p) (samples_length p ∙ ap₂ (λ a b. a * b) high wide)
-
--- a picture of the film's sizes isn't cropped
-uncropped_picture : (h : FilmHead) (p : Picture) → AllowedHead h → FitsHead h p → cropped (across_of (sequence_of h)) h.width h.height (planes_of p) ≡ planes_of p
-uncropped_picture h p allowed fits =
-    same _ _ _
-    (uncropped (16 * across_of (sequence_of h)) h.width h.height p.y (whole h.width allowed.width_whole) fits.luma_width fits.luma_height)
-    (uncropped (8 * across_of (sequence_of h)) (h.width / 2) (h.height / 2) p.cb (half h.width allowed.width_whole) fits.cb_width fits.cb_height)
-    (uncropped (8 * across_of (sequence_of h)) (h.width / 2) (h.height / 2) p.cr (half h.width allowed.width_whole) fits.cr_width fits.cr_height)
-  where
-    whole : (n : ℕ) → n % 16 ≡ 0 → 16 * ((n + 15) / 16) ≡ n
-    whole n e = omega arith
-
-    half : (n : ℕ) → n % 16 ≡ 0 → 8 * ((n + 15) / 16) ≡ n / 2
-    half n e = omega arith
-
-    same : (y u v : List ℕ) → y ≡ samples_of p.y → u ≡ samples_of p.cb → v ≡ samples_of p.cr → (let q : Planes = record { luma = y; cb = u; cr = v } in q ≡ planes_of p)
-    same y u v a b c =
-        ap (λ (l : List ℕ). let r : Planes = record { luma = l; cb = u; cr = v } in r) a
-        ∙ ap (λ (l : List ℕ). let r : Planes = record { luma = samples_of p.y; cb = l; cr = v } in r) b
-        ∙ ap (λ (l : List ℕ). let r : Planes = record { luma = samples_of p.y; cb = samples_of p.cb; cr = l } in r) c
-
--- what is kept is the reconstruction
-pub kept_is : (h : FilmHead) (s : Settings) (number : ℕ) (source : Planes) (p : Picture) → AllowedHead h → FitsHead h p
-    → planes_of p ≡ picture_of (across_of (sequence_of h)) (down_of (sequence_of h)) [] (coded_picture (settled h s) number source) → planes_of p ≡ reconstructed h s number source
+-- what is shown of the kept picture is the reconstruction
+pub kept_is : (h : FilmHead) (s : Settings) (number : ℕ) (source : Planes) (p : Picture)
+    → planes_of p ≡ picture_of (across_of (sequence_of h)) (down_of (sequence_of h)) [] (coded_picture (settled h s) number source) → shown h (planes_of p) ≡ reconstructed h s number source
 unfolding reconstructed
-kept_is h s number source p allowed fits is =
-    sym (uncropped_picture h p allowed fits) ∙ ap (λ q. cropped (across_of (sequence_of h)) h.width h.height q) is
+kept_is h s number source p is = ap (λ (q : Planes). shown h q) is

@@ -9,7 +9,6 @@ use Rattle.enc_edge.specs.Seen.{Seen, spot_at}
 use Rattle.enc_edge.specs.Calls.{Rose}
 use Rattle.spec_film.specs.declared.FilmHead.{FilmHead}
 use Rattle.spec_film.specs.declared.InputFault.{InputFault}
-use Rattle.spec_film.specs.declared.InputFault.TheVariants.{Form}
 use Rattle.spec_film.specs.Films.{Film, Planes, FilmEnd, Ended, Faulty, most_pictures, pictures_of, film_of}
 use Rattle.spec_words.specs.declared.Settings.{Settings}
 use Rattle.encode_film.specs.declared.ends.EncodeEnd.{EncodeEnd}
@@ -50,9 +49,9 @@ write_rose names settings Recon old new (closing_recon mid all failed) = subst (
 of_told : (o : Option (List ℕ)) (left : List ℕ) (P : List ℕ → Type 0) → o ≡ Some left → IfSome o P → P left
 of_told o left P is told = subst (λ x. IfSome x P) is told
 
-no_head_end : (film : Film) (settings : Settings) → film.head ≡ None → answer_of film settings ≡ Err (Input Form)
+no_head_end : (film : Film) (settings : Settings) (fault : InputFault) → film.head ≡ None → film.end ≡ Faulty fault → answer_of film settings ≡ Err (Input fault)
 unfolding answer_of
-no_head_end film settings is = ap (λ (h : Option FilmHead). answer_by h settings film) is
+no_head_end film settings fault is end = ap (λ (h : Option FilmHead). answer_by h settings film) is ∙ ap (end_of None) end
 
 slices_end : (film : Film) (settings : Settings) (head : FilmHead) → film.head ≡ Some head → too_many_slices head settings ≡ true → answer_of film settings ≡ Err (Setting Slices)
 unfolding answer_of
@@ -74,8 +73,9 @@ whole_end film settings head pictures end allowed is are is_end =
     few_end film settings head None end is allowed.few (ap (first_long head settings 0) are ∙ allowed.short) is_end
 
 no_film_end : (names : Names) (settings : Settings) (fault : InputFault) (old new : Seen) (left : List ℕ) → old.input.bytes ≡ Some left → NoFilm names settings fault old new → answer_of (film_of left) settings ≡ Err (Input fault)
-no_film_end names settings Form old new left is (no_head n change told) =
-    no_head_end (film_of left) settings (of_told old.input.bytes left (λ bytes. ((film_of bytes).head ≡ None) × ((film_of bytes).end ≡ Faulty Form)) is told).0
+no_film_end names settings fault old new left is (no_head n change told) =
+    let t = of_told old.input.bytes left (λ bytes. ((film_of bytes).head ≡ None) × ((film_of bytes).end ≡ Faulty fault)) is told in
+    no_head_end (film_of left) settings fault t.0 t.1
 no_film_end names settings fault old new left is (cut_short n head pictures change allowed told) =
     let t = of_told old.input.bytes left (λ bytes. IsFilm bytes head pictures (Faulty fault)) is told in
     whole_end (film_of left) settings head pictures (Faulty fault) allowed t.head_is t.pictures_are t.end_is

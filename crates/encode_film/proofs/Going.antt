@@ -11,7 +11,8 @@ use Rattle.enc_edge.specs.Calls.{took, wrote}
 use Rattle.enc_edge.specs.Reads.{Took, TookSome, ReadFailed}
 use Rattle.enc_edge.proofs.Spots.{took_more, took_none, wrote_none, wrote_more}
 use Rattle.spec_film.specs.declared.FilmHead.{FilmHead}
-use Rattle.spec_film.specs.declared.InputFault.TheVariants.{Form}
+use Rattle.spec_film.specs.declared.InputFault.{InputFault}
+use Rattle.spec_film.specs.declared.InputFault.TheVariants as faults
 use Rattle.spec_film.specs.Films.{Planes, Ended, Faulty, Next, Broken, most_pictures, frame_step}
 use Rattle.spec_film.specs.Written.{head_text, picture_text}
 use Rattle.spec_words.specs.declared.Settings.{Settings}
@@ -19,6 +20,10 @@ use Rattle.spec_stream.specs.Pictures.{IsPicture}
 use Rattle.spec_encoding.specs.Encoding.{encoded_picture, encoded_stream, reconstructed}
 use Rattle.encode_film.specs.declared.ends.EncodeEnd.{EncodeEnd}
 use Rattle.encode_film.specs.declared.ends.EncodeEnd.TheVariants.{Open, Read, Write, Input, Setting, Long, OutOfMemory}
+use Rattle.y4m_film.specs.declared.pictures.FrameFault.{FrameFault}
+use Rattle.y4m_film.specs.declared.pictures.FrameFault.TheVariants as frames
+use Rattle.y4m_film.specs.FrameEnds.{FrameEnd}
+use Rattle.encode_film.specs.Faults.{frame_end}
 use Rattle.encode_film.specs.Limits.{is_long, first_long}
 use Rattle.encode_film.specs.Outputs.{written, shown_film, PictureCut}
 use Rattle.encode_film.specs.Pictures.{PictureEncoded, PictureLeft, PicturesEnd, PictureRead, PictureUnread, cut_picture, PicturesLeft, EndLeft}
@@ -115,23 +120,23 @@ going_end head settings number old mid new g t = record {
     none : IfSome (option_map (drop g.count) old.input.bytes) (λ left. left ≡ [])
     none = along old mid g.count (encoded_stream head settings g.pictures) (shown_film head settings g.pictures) (λ left. left ≡ []) g.change t.content
 
-pub going_broken : (head : FilmHead) (settings : Settings) (number : ℕ) (old mid new : Seen) → Going head settings number old mid
-    → TookSome (λ left. frame_step (most_pictures - number) head left ≡ Broken Form) mid new → PicturesEnd head settings (Faulty Form) old new
-going_broken head settings number old mid new g t = record {
+going_broken : (head : FilmHead) (settings : Settings) (number : ℕ) (fault : InputFault) (old mid new : Seen) → Going head settings number old mid
+    → TookSome (λ left. frame_step (most_pictures - number) head left ≡ Broken fault) mid new → PicturesEnd head settings (Faulty fault) old new
+going_broken head settings number fault old mid new g t = record {
   count = g.count + t.0;
   pictures = g.pictures;
   change = read_on head settings number t.0 old mid new g t.1.change;
   are = g.are;
   short = g.short;
-  told = remains_broken head number g.count g.pictures old.input.bytes g.told
-      (along old mid g.count (encoded_stream head settings g.pictures) (shown_film head settings g.pictures) (λ left. frame_step (most_pictures - number) head left ≡ Broken Form) g.change t.1.content);
+  told = remains_broken head number g.count g.pictures fault old.input.bytes g.told
+      (along old mid g.count (encoded_stream head settings g.pictures) (shown_film head settings g.pictures) (λ left. frame_step (most_pictures - number) head left ≡ Broken fault) g.change t.1.content);
   taken = λ e. absurd (cc);
 }
 
 at_least : (n m : ℕ) → n ≤ n + m
 at_least n m = omega arith
 
-pub going_unread : (head : FilmHead) (settings : Settings) (number : ℕ) (old mid new : Seen) → Going head settings number old mid → ReadFailed mid new → PictureUnread head settings old new
+going_unread : (head : FilmHead) (settings : Settings) (number : ℕ) (old mid new : Seen) → Going head settings number old mid → ReadFailed mid new → PictureUnread head settings old new
 going_unread head settings number old mid new g failed = record {
   count = g.count + failed.0;
   pictures = g.pictures;
@@ -183,13 +188,34 @@ pub going_last : (head : FilmHead) (settings : Settings) (number : ℕ) (old mid
     → PicturesLeft head settings old new r
 going_last head settings number old mid new last g (Ok done) t = going_end head settings number old mid new g t
 going_last head settings number old mid new last g (Err Read) t = going_unread head settings number old mid new g t
-going_last head settings number old mid new last g (Err (Input Form)) t =
-    going_broken head settings number old mid new g (subst (λ k. TookSome (λ left. frame_step k head left ≡ Broken Form) mid new) (none_more number last) t)
+going_last head settings number old mid new last g (Err (Input fault)) t =
+    going_broken head settings number fault old mid new g (subst (λ k. TookSome (λ left. frame_step k head left ≡ Broken fault) mid new) (none_more number last) t)
 going_last head settings number old mid new last g (Err (Write out)) t = absurd t
 going_last head settings number old mid new last g (Err (Open place)) t = absurd t
 going_last head settings number old mid new last g (Err (Setting fault)) t = absurd t
 going_last head settings number old mid new last g (Err (Long picture)) t = absurd t
 going_last head settings number old mid new last g (Err OutOfMemory) t = absurd t
+
+-- the next picture wasn't read
+pub going_fault : (head : FilmHead) (settings : Settings) (number : ℕ) (old mid new : Seen) (end : EncodeEnd) → Going head settings number old mid → (fault : FrameFault) → end ≡ frame_end fault
+    → FrameEnd head number mid new fault → PicturesLeft head settings old new (Err end)
+going_fault head settings number old mid new end g fault is left = subst (λ (e : EncodeEnd). PicturesLeft head settings old new (Err e)) (sym is) (by fault left)
+  where
+    by : (f : FrameFault) → FrameEnd head number mid new f → PicturesLeft head settings old new (Err (frame_end f))
+    by (frames.NotFrame picture) left = going_broken head settings number (faults.NotFrame picture) old mid new g left.1
+    by (frames.CutFrame picture got) left = going_broken head settings number (faults.CutFrame picture got) old mid new g (got, left.1)
+    by frames.TooLong left = going_broken head settings number faults.TooLong old mid new g (1, left.1)
+    by frames.ReadFault left = going_unread head settings number old mid new g (left.count, left.failed)
+
+-- so of the read behind the last picture that a film may have
+pub last_fault : (head : FilmHead) (old new : Seen) (end : EncodeEnd) (fault : FrameFault) → end ≡ frame_end fault → FrameEnd head 1000000 old new fault → EndLeft head old new (Err end)
+last_fault head old new end fault is left = subst (λ (e : EncodeEnd). EndLeft head old new (Err e)) (sym is) (by fault left)
+  where
+    by : (f : FrameFault) → FrameEnd head 1000000 old new f → EndLeft head old new (Err (frame_end f))
+    by (frames.NotFrame picture) left = left.1
+    by (frames.CutFrame picture got) left = (got, left.1)
+    by frames.TooLong left = (1, left.1)
+    by frames.ReadFault left = (left.count, left.failed)
 
 -- what is handed on by `?` is the end that was met
 pub handed_on : (P : Result (Unit {0}) EncodeEnd → Type 0) (r : Result (Unit {0}) EncodeEnd) (end : EncodeEnd) → IsErrAnd r (λ e. e ≡ end) → P (Err end) → P r

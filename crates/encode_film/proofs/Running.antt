@@ -1,6 +1,6 @@
 -- What the calls of a run make together.
-use Rattle.std.proofs.Common.{ℕ, ◌+◌, ◌≤◌, ◌≡◌, true, false, List, [], ◌∷◌, ◌++◌, length, drop, None, refl, ap, ◌∙◌, subst, arith}
-use Rattle.std.specs.Prelude.{IfSome, Result, Ok, Err}
+use Rattle.std.proofs.Common.{ℕ, ◌+◌, ◌≤◌, ◌≡◌, true, false, List, [], ◌∷◌, ◌++◌, length, drop, refl, ap, sym, ◌∙◌, subst, arith}
+use Rattle.std.specs.Prelude.{◌≢◌, IfSome, Result, Ok, Err}
 use Rattle.std.specs.Option.{option_map}
 use Rattle.enc_edge.specs.declared.studio.Out.{Out}
 use Rattle.enc_edge.specs.declared.studio.Out.TheVariants.{Stream, Recon, Report}
@@ -12,7 +12,9 @@ use Rattle.enc_edge.proofs.Spots.{took_more}
 use Rattle.y4m_film.specs.Writes.{FrontWritten}
 use Rattle.spec_film.specs.declared.FilmHead.{FilmHead}
 use Rattle.spec_film.specs.declared.InputFault.{InputFault}
-use Rattle.spec_film.specs.declared.InputFault.TheVariants.{Form}
+use Rattle.spec_film.specs.declared.InputFault.TheVariants as faults
+use Rattle.spec_film.specs.declared.HeadFault.{HeadFault}
+use Rattle.spec_film.specs.declared.HeadFault.TheVariants as heads
 use Rattle.spec_film.specs.Films.{AllowedHead, Planes, FilmEnd, Ended, Faulty, most_pictures, pictures_of, read_head}
 use Rattle.spec_film.specs.Written.{head_text}
 use Rattle.spec_words.specs.declared.Settings.{Settings}
@@ -20,7 +22,9 @@ use Rattle.spec_encoding.specs.Encoding.{encoded_stream}
 use Rattle.encode_film.specs.declared.ends.EncodeEnd.{EncodeEnd}
 use Rattle.encode_film.specs.declared.ends.EncodeEnd.TheVariants.{Open, Read, Write, Input, Setting, Long, OutOfMemory}
 use Rattle.encode_film.specs.Closing.{ClosedLeft}
+use Rattle.y4m_film.specs.LineReads.{LineUnread}
 use Rattle.y4m_film.specs.Taken.{HeadIs, FilmTaken, IsFilm, PicturesTaken}
+use Rattle.encode_film.specs.Faults.{head_end}
 use Rattle.encode_film.specs.Leaving.{Leaves}
 use Rattle.encode_film.specs.Limits.{too_many_slices}
 use Rattle.encode_film.specs.Outputs.{Names, shown_film, written, reading, all_open, encoding}
@@ -47,13 +51,30 @@ head_read names settings head n old first second allowed is t = record {
 -- BEFORE AN OUTPUT IS OPEN
 
 -- reading the head failed
-pub head_unread : (names : Names) (settings : Settings) (old first new : Seen) → first ≡ opened places.Input names.input old → ReadFailed first new → ReadFault names settings old new
+head_unread : (names : Names) (settings : Settings) (old first new : Seen) → first ≡ opened places.Input names.input old → ReadFailed first new → ReadFault names settings old new
 head_unread names settings old first new is failed = in_head failed.0 (subst (λ (s : Seen). LaterFailed places.Input (took places.Input failed.0 s) new) is failed.1)
 
 -- there is no head
-pub no_head_there : (names : Names) (settings : Settings) (old first new : Seen) → first ≡ opened places.Input names.input old → TookSome (λ left. read_head left ≡ None) first new → NoFilm names settings Form old new
-no_head_there names settings old first new is t =
-    no_head t.0 (t.1.change ∙ ap (took places.Input t.0) is) (told_no_head old.input.bytes (subst (λ (s : Seen). IfSome s.input.bytes (λ left. read_head left ≡ None)) is t.1.content))
+no_head_there : (names : Names) (settings : Settings) (fault : HeadFault) (old first new : Seen) → first ≡ opened places.Input names.input old → TookSome (λ left. read_head left ≡ Err fault) first new
+    → NoFilm names settings (faults.Head fault) old new
+no_head_there names settings fault old first new is t =
+    no_head t.0 (t.1.change ∙ ap (took places.Input t.0) is) (told_no_head fault old.input.bytes (subst (λ (s : Seen). IfSome s.input.bytes (λ left. read_head left ≡ Err fault)) is t.1.content))
+
+-- one of the two
+pub head_stopped : (names : Names) (settings : Settings) (old first new : Seen) (end : EncodeEnd) → first ≡ opened places.Input names.input old → (fault : HeadFault) → end ≡ head_end fault
+    → (fault ≡ heads.ReadFault → LineUnread first new) → (fault ≢ heads.ReadFault → TookSome (λ left. read_head left ≡ Err fault) first new) → Leaves names settings old new (Err end)
+head_stopped names settings old first new end is fault ends unread broken = subst (λ (e : EncodeEnd). Leaves names settings old new (Err e)) (sym ends) (by fault unread broken)
+  where
+    by : (f : HeadFault) → (f ≡ heads.ReadFault → LineUnread first new) → (f ≢ heads.ReadFault → TookSome (λ left. read_head left ≡ Err f) first new) → Leaves names settings old new (Err (head_end f))
+    by heads.ReadFault unread broken = let u = unread refl in head_unread names settings old first new is (u.count, u.failed)
+    by heads.NotY4m unread broken = no_head_there names settings heads.NotY4m old first new is (broken (λ e. cc))
+    by heads.LongLine unread broken = no_head_there names settings heads.LongLine old first new is (broken (λ e. cc))
+    by heads.BadNumber unread broken = no_head_there names settings heads.BadNumber old first new is (broken (λ e. cc))
+    by heads.Chroma unread broken = no_head_there names settings heads.Chroma old first new is (broken (λ e. cc))
+    by heads.Interlace unread broken = no_head_there names settings heads.Interlace old first new is (broken (λ e. cc))
+    by heads.Missing unread broken = no_head_there names settings heads.Missing old first new is (broken (λ e. cc))
+    by heads.Size unread broken = no_head_there names settings heads.Size old first new is (broken (λ e. cc))
+    by heads.OddSize unread broken = no_head_there names settings heads.OddSize old first new is (broken (λ e. cc))
 
 -- a picture would have too many slices
 pub slices_refused : (names : Names) (settings : Settings) (head : FilmHead) (n : ℕ) (old mid : Seen) → AtHead names settings head n old mid → too_many_slices head settings ≡ true → SlicesRefused names settings old mid

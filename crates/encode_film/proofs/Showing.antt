@@ -1,7 +1,8 @@
 -- What a decoder reads and shows of the stream.
-use Rattle.std.proofs.Common.{ℕ, ◌+◌, ◌/◌, ◌≡◌, ◌≤◌, ◌||◌, false, nat_lt, List, arith}
+use Rattle.std.proofs.Common.{ℕ, ◌≡◌, ◌≤◌, ◌||◌, false, nat_lt, List, arith}
 use Rattle.std.specs.List.{All}
 use Rattle.std.proofs.lemmas.Bool.Decides.{nat_tests}
+use Rattle.spec_basics.specs.Sizes.{in_macroblocks}
 use Rattle.spec_film.specs.declared.FilmHead.{FilmHead}
 use Rattle.spec_film.specs.Films.{Planes, AllowedHead}
 use Rattle.spec_words.specs.declared.Settings.{Settings}
@@ -16,18 +17,15 @@ few_then : (a b n : ℕ) → (nat_lt a n || nat_lt b n) ≡ false → n ≤ b
 few_then a b n h = grind (arith, nat_tests)
 
 -- there are at most as many slices as rows of macroblocks
-pub few_slices : (head : FilmHead) (settings : Settings) → too_many_slices head settings ≡ false → settings.slices ≤ head.height / 16
-few_slices head settings few = few_then 16 (head.height / 16) settings.slices few
-
-rows_of : (n height : ℕ) → n ≤ height / 16 → n ≤ (height + 15) / 16
-rows_of n height h = omega arith
+pub few_slices : (head : FilmHead) (settings : Settings) → too_many_slices head settings ≡ false → settings.slices ≤ in_macroblocks head.height
+few_slices head settings few = few_then 16 (in_macroblocks head.height) settings.slices few
 
 pub shows : (head : FilmHead) (settings : Settings) (pictures : List Planes) → AllowedHead head → settings.qp ≤ 51 → 1 ≤ settings.slices → too_many_slices head settings ≡ false → All (IsPicture head) pictures
     → Shows (encoded_stream head settings pictures) (reconstruction head settings 0 pictures)
 shows head settings pictures allowed qp some few are =
-    encodings_decode head settings pictures allowed qp some (rows_of settings.slices head.height (few_slices head settings few)) are
+    encodings_decode head settings pictures allowed qp some (few_slices head settings few) are
 
 pub reads : (head : FilmHead) (settings : Settings) (pictures : List Planes) → AllowedHead head → settings.qp ≤ 51 → 1 ≤ settings.slices → too_many_slices head settings ≡ false → All (IsPicture head) pictures
     → Reads (encoded_stream head settings pictures) (coded_pictures head settings 0 pictures)
 reads head settings pictures allowed qp some few are =
-    encodings_are_read head settings pictures allowed qp some (rows_of settings.slices head.height (few_slices head settings few)) are
+    encodings_are_read head settings pictures allowed qp some (few_slices head settings few) are

@@ -1,7 +1,6 @@
 -- Which end a film and the settings have where nothing outside fails.
 use Rattle.std.specs.Prelude.{ℕ, ◌≡◌, ◌⊎◌, Option, Some, None, Result, Ok, Err, if◌then◌else◌}
 use Rattle.spec_film.specs.declared.FilmHead.{FilmHead}
-use Rattle.spec_film.specs.declared.InputFault.TheVariants.{Form}
 use Rattle.spec_film.specs.Films.{Film, FilmEnd, Ended, Faulty}
 use Rattle.spec_words.specs.declared.Settings.{Settings}
 use Rattle.encode_film.specs.declared.ends.EncodeEnd.{EncodeEnd}
@@ -15,9 +14,9 @@ end_of (Some number) end = Err (ends.Long number)
 end_of None Ended = Ok tt
 end_of None (Faulty fault) = Err (ends.Input fault)
 
--- by the head
+-- by the head; where there is none, the film's end is its fault
 abbrev pub answer_by : Option FilmHead → Settings → Film → Result (Unit {0}) EncodeEnd
-answer_by None settings film = Err (ends.Input Form)
+answer_by None settings film = end_of None film.end
 answer_by (Some head) settings film =
     if too_many_slices head settings then Err (ends.Setting Slices) else end_of (first_long head settings 0 film.pictures) film.end
 

@@ -1,6 +1,7 @@
 pub mod Answering
 pub mod Closing
 pub mod Coders
+pub mod Faults
 pub mod Leaving
 pub mod Lending
 pub mod Limits

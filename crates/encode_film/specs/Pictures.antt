@@ -9,7 +9,6 @@ use Rattle.enc_edge.specs.Calls.{LaterFailed, wrote}
 use Rattle.enc_edge.specs.Reads.{Took, TookSome, ReadFailed}
 use Rattle.y4m_film.specs.Writes.{FrontWritten}
 use Rattle.spec_film.specs.declared.FilmHead.{FilmHead}
-use Rattle.spec_film.specs.declared.InputFault.TheVariants.{Form}
 use Rattle.spec_film.specs.Films.{Planes, FilmEnd, Ended, Faulty, Broken, most_pictures, frame_step, pictures_of}
 use Rattle.spec_film.specs.Written.{head_text, picture_text}
 use Rattle.spec_words.specs.declared.Settings.{Settings}
@@ -103,7 +102,7 @@ PicturesLeft head settings old new (Err OutOfMemory) = ⊥
 abbrev pub EndLeft : FilmHead → Seen → Seen → Result (Unit {0}) EncodeEnd → Type 0
 EndLeft head old new (Ok done) = Took 0 (λ left. left ≡ []) old new
 EndLeft head old new (Err Read) = ReadFailed old new
-EndLeft head old new (Err (Input Form)) = TookSome (λ left. frame_step 0 head left ≡ Broken Form) old new
+EndLeft head old new (Err (Input fault)) = TookSome (λ left. frame_step 0 head left ≡ Broken fault) old new
 EndLeft head old new (Err (Write out)) = ⊥
 EndLeft head old new (Err (Long picture)) = ⊥
 EndLeft head old new (Err (Open place)) = ⊥

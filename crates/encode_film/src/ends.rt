@@ -1,6 +1,10 @@
 // How an encoding ends where not all is done.
+ghost use Rattle.std.specs.Prelude.{◌≡◌};
+ghost use Rattle.encode_film.specs.Faults.{frame_end, head_end};
+
 use enc_edge::{Out, Place};
-use spec_film::InputFault;
+use spec_film::{HeadFault, InputFault};
+use y4m_film::FrameFault;
 
 /// Which setting doesn't fit the film.
 #[derive(Clone, Copy, Debug, PartialEq, Eq)]
@@ -30,4 +34,24 @@ pub enum EncodeEnd {
     },
     /// Memory was wanting. No output was opened then, and of the input the film's head was read and no more.
     OutOfMemory,
+}
+
+// The end where no head was read.
+pub(crate) fn head_end(fault: HeadFault) -> EncodeEnd
+    ensures { result ≡ head_end fault }
+{
+    match fault {
+        HeadFault::ReadFault => EncodeEnd::Read,
+        fault => EncodeEnd::Input(InputFault::Head(fault)),
+    }
+}
+
+// The end where no picture was read.
+pub(crate) fn frame_end(fault: FrameFault) -> EncodeEnd
+    ensures { result ≡ frame_end fault }
+{
+    match fault.input_fault() {
+        Some(fault) => EncodeEnd::Input(fault),
+        None => EncodeEnd::Read,
+    }
 }

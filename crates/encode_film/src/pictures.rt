@@ -13,16 +13,14 @@ ghost use Rattle.encode_film.specs.Coders.{IsMadeFor};
 ghost use Rattle.encode_film.specs.Pictures.{EndLeft, PictureLeft, PicturesLeft};
 
 use crate::EncodeEnd;
+use crate::ends::frame_end;
 use crate::unit_coder::UnitCoder;
 use bit_strings::BitBuf;
 use enc_edge::{Gate, Out, Studio, write_full};
 use picture_planes::{Picture, Plane};
 use spec_film::{FilmHead, InputFault};
 use spec_words::Settings;
-use y4m_film::{FrameFault, next_picture, put_head, put_picture};
-
-// The most pictures that a film may have.
-const MOST_PICTURES: u32 = 1_000_000;
+use y4m_film::{MOST_PICTURES, next_picture, put_head, put_picture};
 
 // Codes a picture, and writes its access unit and what a decoder shows of it.
 fn encode_picture<R, S: Studio, G: Gate + Sync>(
@@ -54,7 +52,7 @@ fn encode_picture<R, S: Studio, G: Gate + Sync>(
         Ok(()) => {}
         Err(_) => return Err(EncodeEnd::Write(Out::Stream)),
     }
-    match put_picture(studio, Out::Recon, coder.decoded()) {
+    match put_picture(studio, Out::Recon, head, coder.decoded()) {
         Ok(()) => Ok(()),
         Err(_) => Err(EncodeEnd::Write(Out::Recon)),
     }
@@ -86,8 +84,7 @@ pub(crate) fn encode_pictures<R, S: Studio, G: Gate + Sync>(
         match next_picture(studio, head, number, picture) {
             Ok(true) => {}
             Ok(false) => return Ok(()),
-            Err(FrameFault::ReadFault) => return Err(EncodeEnd::Read),
-            Err(FrameFault::Form) => return Err(EncodeEnd::Input(InputFault::Form)),
+            Err(fault) => return Err(frame_end(fault)),
         }
         lemma_is_picture(head, picture);
         encode_picture(
@@ -129,9 +126,8 @@ fn end_pictures<S: Studio>(
     ensures { EndLeft head.now (S.seen studio.old) (S.seen studio.new) result }
 {
     match next_picture(studio, head, MOST_PICTURES, picture) {
-        Ok(true) => Err(EncodeEnd::Input(InputFault::Form)),
+        Ok(true) => Err(EncodeEnd::Input(InputFault::TooLong)),
         Ok(false) => Ok(()),
-        Err(FrameFault::ReadFault) => Err(EncodeEnd::Read),
-        Err(FrameFault::Form) => Err(EncodeEnd::Input(InputFault::Form)),
+        Err(fault) => Err(frame_end(fault)),
     }
 }

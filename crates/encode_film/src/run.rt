@@ -9,15 +9,16 @@ ghost use Rattle.encode_film.specs.Outputs.{named};
 ghost use Rattle.encode_film.specs.Runs.{NoFault};
 
 use crate::closing::close_outputs;
+use crate::ends::head_end;
 use crate::pictures::encode_pictures;
 use crate::unit_coder::UnitCoder;
 use crate::{EncodeEnd, SettingFault};
 use bit_strings::BitBuf;
 use enc_edge::{Gate, Out, Place, Studio};
 use picture_planes::Picture;
-use spec_film::{FilmHead, InputFault};
+use spec_film::FilmHead;
 use spec_words::Settings;
-use y4m_film::{HeadFault, read_head};
+use y4m_film::read_head;
 
 // The room of an access unit: 100,000,000 bits.
 const UNIT_BYTES: u32 = 12_500_000;
@@ -26,9 +27,10 @@ const UNIT_BYTES: u32 = 12_500_000;
 const MOST_SLICES: u32 = 16;
 
 fn has_too_many_slices(head: &FilmHead, settings: &Settings) -> bool
+    requires { head.now.height ≤ 2304 }
     ensures { result ≡ too_many_slices head.now settings.now }
 {
-    settings.slices > MOST_SLICES || settings.slices > head.height / 16
+    settings.slices > MOST_SLICES || settings.slices > (head.height + 15) / 16
 }
 
 fn encode_film<R: AllocGlobal, S: Studio, G: Gate + Sync>(
@@ -51,8 +53,7 @@ fn encode_film<R: AllocGlobal, S: Studio, G: Gate + Sync>(
     }
     let head = match read_head(studio) {
         Ok(head) => head,
-        Err(HeadFault::ReadFault) => return Err(EncodeEnd::Read),
-        Err(HeadFault::Form) => return Err(EncodeEnd::Input(InputFault::Form)),
+        Err(fault) => return Err(head_end(fault)),
     };
     if has_too_many_slices(&head, settings) {
         return Err(EncodeEnd::Setting(SettingFault::Slices));
@@ -88,7 +89,8 @@ fn encode_film<R: AllocGlobal, S: Studio, G: Gate + Sync>(
 }
 
 /// Encodes the film of one name as a stream of IDR pictures, one access unit for each, under the second name, and
-/// writes the film that a decoder shows of it under the third.
+/// writes the film that a decoder shows of it under the third. Pictures are padded to whole macroblocks before they are
+/// coded, and what is shown of them has the film's own sizes.
 ///
 /// All memory is taken behind the film's head, before an output is opened.
 pub fn encode<R: AllocGlobal, S: Studio, G: Gate + Sync>(

@@ -25,7 +25,8 @@ pub(crate) struct UnitCoder {
 }
 
 impl UnitCoder {
-    ghost use Rattle.std.specs.Prelude.{◌≡◌, ◌≤◌, ◌/◌, [], IfOk};
+    ghost use Rattle.std.specs.Prelude.{◌≡◌, ◌≤◌, [], IfOk};
+    ghost use Rattle.spec_basics.specs.Sizes.{in_macroblocks};
     ghost use Rattle.spec_bits.specs.Bits.{bits_of_bytes};
     ghost use Rattle.bit_strings.specs.BitText.{Appends};
     ghost use Rattle.spec_film.specs.Films.{AllowedHead};
@@ -48,7 +49,7 @@ impl UnitCoder {
     ) -> Result<UnitCoder, OutOfMemory>
         requires head { AllowedHead head.now }
         requires some { 1 ≤ settings.now.slices }
-        requires few { settings.now.slices ≤ head.now.height / 16 }
+        requires few { settings.now.slices ≤ in_macroblocks head.now.height }
         ensures { IfOk result (λ coder. IsMadeFor coder head.now settings.now) }
     {
         let coder = PictureCoder::new(alloc, head.width, head.height, settings.slices, UNIT_BITS)?;

@@ -57,7 +57,8 @@ use Rattle.spec_slice_data.specs.Decoding.{decoded, decoded_from}
 use Rattle.spec_slice_data.specs.Slice.{slice_data}
 use Rattle.spec_slice_payload.specs.Allowed.{modes_allowed, all_allowed}
 use Rattle.spec_slice_payload.specs.Reading.{read_data, read_layer}
-use Rattle.spec_decoder.specs.Output.{placed, cropped_plane}
+use Rattle.spec_decoder.specs.Output.{placed}
+use Rattle.spec_film.specs.Cropping.{cropped_plane}
 use Rattle.spec_decoder.specs.Sets.{read_set}
 use Rattle.spec_decoder.specs.Pcm.{pcm_macroblock, pcm_macroblocks, read_pcm_slice}
 use Rattle.spec_syntax.specs.Blocks.{above_one, equal_one, levels, significance, some_levels}

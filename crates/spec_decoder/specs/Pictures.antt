@@ -9,7 +9,8 @@ use Rattle.spec_headers.specs.declared.heads.SliceHead.{SliceHead}
 use Rattle.spec_bits.specs.Units.{Nal, units_of}
 use Rattle.spec_headers.specs.HeadReaders.{sequence, picture}
 use Rattle.spec_decoder.specs.Sets.{read_set, across_of, down_of}
-use Rattle.spec_decoder.specs.Output.{placed, pictures_in, cropped}
+use Rattle.spec_decoder.specs.Output.{placed, pictures_in}
+use Rattle.spec_film.specs.Cropping.{cropped}
 use Rattle.spec_lists.specs.References.{Reference, kept, slid}
 use Rattle.spec_lists.specs.Heads.{is_referred, fits_ref_idc, is_numbered, idr_id_of, is_other, agree}
 use Rattle.spec_decoder.specs.Passed.{is_passed}

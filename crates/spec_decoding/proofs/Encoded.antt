@@ -9,7 +9,7 @@ use Rattle.spec_headers.specs.declared.heads.SeqHead.{SeqHead}
 use Rattle.spec_words.specs.declared.Settings.{Settings}
 use Rattle.spec_decoder.specs.Sets.{across_of, down_of}
 use Rattle.spec_stream.specs.Pictures.{IsPicture}
-use Rattle.spec_decoder.specs.Output.{cropped}
+use Rattle.spec_film.specs.Cropping.{cropped}
 use Rattle.spec_slice_payload.specs.Layer as layer
 use Rattle.spec_decoder.specs.Pictures.{shown_planes, decode_by, read_by}
 use Rattle.spec_pictures.specs.Coded.{CodedSlice, AllCover, slices_in, picture_units, stream_of, shown_of, slices_of_each}

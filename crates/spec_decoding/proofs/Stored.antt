@@ -17,7 +17,7 @@ use Rattle.spec_headers.specs.HeadFields.{sequence_payload, picture_payload}
 use Rattle.spec_bits.specs.Units.{unit_bytes}
 use Rattle.spec_stream.specs.Pictures.{IsPicture}
 use Rattle.spec_stream.specs.Samples.{plane_from, picture_from}
-use Rattle.spec_decoder.specs.Output.{cropped}
+use Rattle.spec_film.specs.Cropping.{cropped, shown}
 use Rattle.spec_stream.specs.Stored.{macroblocks_of, mbs_across, mbs_down, stored_sequence, stored_slice_head, stored_picture, stored_pictures, stored_stream}
 use Rattle.spec_stream.proofs.PcmLaws.{IsMacroblock}
 use Rattle.spec_stream.proofs.PictureLaws.{macroblocks_are, length-macroblocks_of, across_some, down_some, has_planes, picture_back}
@@ -106,14 +106,14 @@ the_slice h number p = of_samples (stored_slice_head number, macroblocks_of (mbs
 coded_slice : FilmHead → ℕ → Planes → CodedSlice Slice
 coded_slice h number p = record { payload = stored_payload h number p; slice = the_slice h number p }
 
-picture_is : (h : FilmHead) (number : ℕ) (p : Planes) → AllowedHead h → IsPicture h p → shown_planes (stored_sequence h) (frames.planes (stored_sequence h) [] (the_slice h number p ∷ [])) ≡ p
+picture_is : (h : FilmHead) (number : ℕ) (p : Planes) → AllowedHead h → IsPicture h p → shown_planes (stored_sequence h) (frames.planes (stored_sequence h) [] (the_slice h number p ∷ [])) ≡ shown h p
 unfolding the_slice picture_made slices_made
 picture_is h number p allowed is =
     let across : ℕ = mbs_across h in
     let down : ℕ = mbs_down h in
     let ms : List (List ℕ) = macroblocks_of across down p in
     let wide : 0 < across = across_some h allowed in
-    let are : All IsMacroblock ms = macroblocks_are across down p wide (has_planes h p allowed is) is.luma_bytes is.cb_bytes is.cr_bytes in
+    let are : All IsMacroblock ms = macroblocks_are across down p wide (has_planes h p is) is.luma_bytes is.cb_bytes is.cr_bytes in
     ap (λ (q : Planes). cropped across h.width h.height q)
     (pcm_stays (pictures_of (lists_by (stored_slice_head number) []).list0) (pictures_of (lists_by (stored_slice_head number) []).list1) (all_records (the_slice h number p ∷ [])) (16 * across) (slice_made across (sources_by (stored_slice_head number) []) 0 (map pcm ms) (blank_planes across down))
     (All-append (λ (r : MbRecord). is_pcm r.kind ≡ true) (map record_of (map pcm ms)) [] (all_pcm ms) (All-nil (λ (r : MbRecord). is_pcm r.kind ≡ true)))
@@ -168,20 +168,20 @@ all_cover h number before (p ∷ ps) allowed other are = (
   ),
 )
 
-shown_is : (h : FilmHead) (number : ℕ) (pictures : List Planes) → AllowedHead h → All (IsPicture h) pictures → shown_of frames (stored_sequence h) (all_coded h number pictures) ≡ pictures
+shown_is : (h : FilmHead) (number : ℕ) (pictures : List Planes) → AllowedHead h → All (IsPicture h) pictures → shown_of frames (stored_sequence h) (all_coded h number pictures) ≡ map (shown h) pictures
 unfolding all_coded coded_slice
 shown_is h number [] allowed are = refl
 shown_is h number (p ∷ ps) allowed are =
     ap₂ (λ (q : Planes) (rest : List Planes). q ∷ rest) (picture_is h number p allowed (All-head (IsPicture h) p ps are)) (shown_is h (number + 1) ps allowed (All-tail (IsPicture h) p ps are))
 
-pub stored_stream_decodes : (h : FilmHead) (pictures : List Planes) → AllowedHead h → All (IsPicture h) pictures → decode (stored_stream h pictures) ≡ Some pictures
+pub stored_stream_decodes : (h : FilmHead) (pictures : List Planes) → AllowedHead h → All (IsPicture h) pictures → decode (stored_stream h pictures) ≡ Some (map (shown h) pictures)
 unfolding decode
 stored_stream_decodes h pictures allowed are =
     ap (λ (bytes : List ℕ). decode_by frames bytes) (stream_is h 0 pictures)
     ∙ idr_streams_decode frames (stored_sequence h) (false, false) (all_coded h 0 pictures) (sequence_allowed h allowed) (lit< tt) (all_cover h 0 None pictures allowed refl are)
     ∙ ap (λ (ps : List Planes). Some ps) (shown_is h 0 pictures allowed are)
 
-pub stored_film_decodes : (bytes : List ℕ) (h : FilmHead) → All IsByte bytes → (film_of bytes).head ≡ Some h → decode (stored_stream h (film_of bytes).pictures) ≡ Some (film_of bytes).pictures
+pub stored_film_decodes : (bytes : List ℕ) (h : FilmHead) → All IsByte bytes → (film_of bytes).head ≡ Some h → decode (stored_stream h (film_of bytes).pictures) ≡ Some (map (shown h) (film_of bytes).pictures)
 stored_film_decodes bytes h small is =
     let has = film_has bytes h small is in
     stored_stream_decodes h (film_of bytes).pictures has.allowed has.pictures

@@ -14,7 +14,8 @@ use Rattle.spec_bits.specs.Units.{Nal}
 use Rattle.spec_reading.specs.Reader.{u_behind, ue_behind, se, signed_at, fixed, flag}
 use Rattle.spec_headers.specs.HeadReaders.{sequence, cropping, picture}
 use Rattle.spec_decoder.specs.Sets.{read_set}
-use Rattle.spec_decoder.specs.Output.{placed, cropped_plane}
+use Rattle.spec_decoder.specs.Output.{placed}
+use Rattle.spec_film.specs.Cropping.{cropped_plane}
 use Rattle.spec_lists.specs.References.{slid}
 use Rattle.spec_lists.specs.Heads.{common}
 use Rattle.spec_decoder.specs.Pictures.{Reading, Decoder, start, made, shown, joined, slice_step, with_slice, step, steps, all_shown}

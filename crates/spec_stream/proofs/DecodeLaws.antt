@@ -53,17 +53,14 @@ pub sequence_allowed : (h : FilmHead) → AllowedHead h → IsSeqHead (stored_se
 sequence_allowed h allowed = record {
   width_from = allowed.width_least;
   width_to = allowed.width_most;
-  width_even = even h.width allowed.width_whole;
+  width_even = allowed.width_even;
   height_from = allowed.height_least;
   height_to = allowed.height_most;
-  height_even = even h.height allowed.height_whole;
+  height_even = allowed.height_even;
   refs_from = lit< tt;
   refs_to = lit< tt;
   timing = tt;
 }
-  where
-    even : (n : ℕ) → n % 16 ≡ 0 → n % 2 ≡ 0
-    even n e = omega arith
 
 -- ---- slices
 
@@ -99,7 +96,7 @@ unfolding read_pcm_slice stored_slice_bits
 slice_back h number p allowed is =
     ap (λ bits. option_and_then with_macroblocks (read (idr_slice false) bits)) (bits_of_bytes-bytes_of_bits (head ++ (body ++ digits 8 128)) (slice_bits_whole (mbs_across h) (mbs_down h) number p (mul-pos (across_some h allowed) (down_some h allowed))))
     ∙ ap (λ o. option_and_then with_macroblocks o) ((head_reads number).back (body ++ digits 8 128))
-    ∙ ap (λ o. option_map made o) (pcm_macroblocks-back (length (body ++ digits 8 128)) (length head) ms enough (macroblocks_are (mbs_across h) (mbs_down h) p (across_some h allowed) (has_planes h p allowed is) is.luma_bytes is.cb_bytes is.cr_bytes))
+    ∙ ap (λ o. option_map made o) (pcm_macroblocks-back (length (body ++ digits 8 128)) (length head) ms enough (macroblocks_are (mbs_across h) (mbs_down h) p (across_some h allowed) (has_planes h p is) is.luma_bytes is.cb_bytes is.cr_bytes))
   where
     head : List Bool
     head = slice_head_bits (stored_slice_head number)

@@ -14,7 +14,7 @@ use Rattle.std.proofs.lemmas.Grind.{common_steps}
 use Rattle.spec_film.specs.Films.{Planes}
 use Rattle.spec_stream.specs.Stored.{block_at, macroblock_samples, macroblocks_of}
 use Rattle.spec_stream.specs.Samples.{sample_at, plane_from, picture_from}
-use Rattle.spec_decoder.specs.Output.{cropped_plane}
+use Rattle.spec_film.specs.Cropping.{cropped_plane}
 use Rattle.spec_stream.proofs.StoredLaws.{block_at-more, block_at-none}
 
 -- the block lies in the plane: each of its rows has all its columns

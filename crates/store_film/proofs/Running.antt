@@ -1,7 +1,7 @@
 -- What the calls of a run make together.
 use Rattle.std.proofs.Common.{ℕ, ◌+◌, ◌≤◌, ◌≡◌, List, [], length, take, drop, Option, Some, None, refl, ap, sym, ◌∙◌, subst, arith}
 use Rattle.std.proofs.lemmas.Grind.{common_steps}
-use Rattle.std.specs.Prelude.{IfSome, Result, Err}
+use Rattle.std.specs.Prelude.{◌≢◌, IfSome, Result, Err}
 use Rattle.std.specs.Option.{option_map}
 use Rattle.enc_edge.specs.declared.studio.Out.TheVariants.{Stream}
 use Rattle.enc_edge.specs.declared.studio.Place.TheVariants as places
@@ -11,15 +11,19 @@ use Rattle.enc_edge.specs.Reads.{Took, TookSome, ReadFailed}
 use Rattle.enc_edge.proofs.Spots.{took_more}
 use Rattle.spec_film.specs.declared.FilmHead.{FilmHead}
 use Rattle.spec_film.specs.declared.InputFault.{InputFault}
-use Rattle.spec_film.specs.declared.InputFault.TheVariants.{Form}
+use Rattle.spec_film.specs.declared.InputFault.TheVariants as faults
+use Rattle.spec_film.specs.declared.HeadFault.{HeadFault}
+use Rattle.spec_film.specs.declared.HeadFault.TheVariants as heads
 use Rattle.spec_film.specs.Films.{AllowedHead, Planes, FilmEnd, Ended, Faulty, most_pictures, pictures_of, read_head}
 use Rattle.spec_stream.specs.Stored.{stored_stream}
 use Rattle.spec_decoding.proofs.Stored.{stored_stream_decodes}
+use Rattle.y4m_film.specs.LineReads.{LineUnread}
 use Rattle.y4m_film.specs.Taken.{HeadIs, FilmTaken, IsFilm, PicturesTaken}
 use Rattle.y4m_film.proofs.Remaining.{of_both, taken_all}
 use Rattle.y4m_film.proofs.Behind.{told_both, told_taken, told_film, told_none, told_no_head}
 use Rattle.store_film.specs.declared.ends.StoreEnd.{StoreEnd}
 use Rattle.store_film.specs.declared.ends.StoreEnd.TheVariants.{Open, Read, Write, Input, OutOfMemory}
+use Rattle.store_film.specs.Faults.{head_end}
 use Rattle.store_film.specs.Leaving.{Leaves}
 use Rattle.store_film.specs.Pictures.{PicturesEnd, PictureUnread, PictureUnwritten, PicturesLeft}
 use Rattle.store_film.specs.Runs.{reading, storing, Stored, HeadRead, ReadFault, in_head, in_pictures, WriteFault, NoFilm, no_head, cut_short}
@@ -119,13 +123,29 @@ unclosed input output head n old mid last new b e failed =
     take_all xs = grind (arith, common_steps)
 
 -- reading the head failed
-pub head_unread : (input output : List ℕ) (old first new : Seen) → first ≡ opened places.Input input old → ReadFailed first new → ReadFault input output old new
+head_unread : (input output : List ℕ) (old first new : Seen) → first ≡ opened places.Input input old → ReadFailed first new → ReadFault input output old new
 head_unread input output old first new is failed = in_head failed.0 (subst (λ (s : Seen). LaterFailed places.Input (took places.Input failed.0 s) new) is failed.1)
 
 -- there is no head
-pub no_head_there : (input output : List ℕ) (old first new : Seen) → first ≡ opened places.Input input old → TookSome (λ left. read_head left ≡ None) first new → NoFilm input output Form old new
-no_head_there input output old first new is t =
-    no_head t.0 (t.1.change ∙ ap (took places.Input t.0) is) (told_no_head old.input.bytes (subst (λ (s : Seen). IfSome s.input.bytes (λ left. read_head left ≡ None)) is t.1.content))
+no_head_there : (input output : List ℕ) (fault : HeadFault) (old first new : Seen) → first ≡ opened places.Input input old → TookSome (λ left. read_head left ≡ Err fault) first new → NoFilm input output (faults.Head fault) old new
+no_head_there input output fault old first new is t =
+    no_head t.0 (t.1.change ∙ ap (took places.Input t.0) is) (told_no_head fault old.input.bytes (subst (λ (s : Seen). IfSome s.input.bytes (λ left. read_head left ≡ Err fault)) is t.1.content))
+
+-- one of the two
+pub head_stopped : (input output : List ℕ) (old first new : Seen) (end : StoreEnd) → first ≡ opened places.Input input old → (fault : HeadFault) → end ≡ head_end fault
+    → (fault ≡ heads.ReadFault → LineUnread first new) → (fault ≢ heads.ReadFault → TookSome (λ left. read_head left ≡ Err fault) first new) → Leaves input output old new (Err end)
+head_stopped input output old first new end is fault ends unread broken = subst (λ (e : StoreEnd). Leaves input output old new (Err e)) (sym ends) (by fault unread broken)
+  where
+    by : (f : HeadFault) → (f ≡ heads.ReadFault → LineUnread first new) → (f ≢ heads.ReadFault → TookSome (λ left. read_head left ≡ Err f) first new) → Leaves input output old new (Err (head_end f))
+    by heads.ReadFault unread broken = let u = unread refl in head_unread input output old first new is (u.count, u.failed)
+    by heads.NotY4m unread broken = no_head_there input output heads.NotY4m old first new is (broken (λ e. cc))
+    by heads.LongLine unread broken = no_head_there input output heads.LongLine old first new is (broken (λ e. cc))
+    by heads.BadNumber unread broken = no_head_there input output heads.BadNumber old first new is (broken (λ e. cc))
+    by heads.Chroma unread broken = no_head_there input output heads.Chroma old first new is (broken (λ e. cc))
+    by heads.Interlace unread broken = no_head_there input output heads.Interlace old first new is (broken (λ e. cc))
+    by heads.Missing unread broken = no_head_there input output heads.Missing old first new is (broken (λ e. cc))
+    by heads.Size unread broken = no_head_there input output heads.Size old first new is (broken (λ e. cc))
+    by heads.OddSize unread broken = no_head_there input output heads.OddSize old first new is (broken (λ e. cc))
 
 -- memory was wanting behind the head, or the stream couldn't be opened
 pub head_read : (input : List ℕ) (head : FilmHead) (n : ℕ) (old first second : Seen) → first ≡ opened places.Input input old → Took n (λ left. (n ≤ length left) × HeadIs head n left) first second → HeadRead input old second

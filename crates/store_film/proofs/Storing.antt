@@ -14,7 +14,8 @@ use Rattle.enc_edge.specs.Calls.{took, wrote, LaterFailed}
 use Rattle.enc_edge.specs.Reads.{Took, TookSome, ReadFailed}
 use Rattle.enc_edge.proofs.Spots.{took_more, took_none, wrote_none, wrote_more}
 use Rattle.spec_film.specs.declared.FilmHead.{FilmHead}
-use Rattle.spec_film.specs.declared.InputFault.TheVariants.{Form}
+use Rattle.spec_film.specs.declared.InputFault.{InputFault}
+use Rattle.spec_film.specs.declared.InputFault.TheVariants as faults
 use Rattle.spec_film.specs.Films.{Planes, Ended, Faulty, Next, Broken, most_pictures, frame_step}
 use Rattle.spec_stream.specs.Stored.{stored_picture, stored_pictures, stored_stream}
 use Rattle.std.proofs.lemmas.List.Elements.{All-nil, All-cons, All-append}
@@ -22,10 +23,14 @@ use Rattle.spec_stream.specs.Pictures.{IsPicture}
 use Rattle.spec_stream.proofs.StoredLaws.{stored_pictures-push}
 use Rattle.picture_planes.specs.declared.picture.Picture.{Picture}
 use Rattle.picture_planes.specs.Pictures.{SameShapes}
+use Rattle.y4m_film.specs.declared.pictures.FrameFault.{FrameFault}
+use Rattle.y4m_film.specs.declared.pictures.FrameFault.TheVariants.{NotFrame, CutFrame, TooLong, ReadFault}
+use Rattle.y4m_film.specs.FrameEnds.{FrameEnd}
 use Rattle.y4m_film.specs.Sizes.{FitsHead}
 use Rattle.y4m_film.proofs.Remaining.{Remains, remains_none, remains_more, remains_over, remains_broken, none_left, none_more, taken_of}
 use Rattle.store_film.specs.declared.ends.StoreEnd.{StoreEnd}
 use Rattle.store_film.specs.declared.ends.StoreEnd.TheVariants.{Open, Read, Write, Input, OutOfMemory}
+use Rattle.store_film.specs.Faults.{frame_end}
 use Rattle.store_film.specs.Pictures.{PicturesEnd, PictureUnread, PictureUnwritten, PicturesLeft, EndLeft}
 
 -- so many pictures were stored
@@ -91,19 +96,19 @@ going_end head number old mid new g t = record {
     none : IfSome (option_map (drop g.count) old.input.bytes) (λ left. left ≡ [])
     none = along old mid g.count (stored_stream head g.pictures) (λ left. left ≡ []) g.change t.content
 
-pub going_broken : (head : FilmHead) (number : ℕ) (old mid new : Seen) → Going head number old mid
-    → TookSome (λ left. frame_step (most_pictures - number) head left ≡ Broken Form) mid new → PicturesEnd head (Faulty Form) old new
-going_broken head number old mid new g t = record {
+going_broken : (head : FilmHead) (number : ℕ) (fault : InputFault) (old mid new : Seen) → Going head number old mid
+    → TookSome (λ left. frame_step (most_pictures - number) head left ≡ Broken fault) mid new → PicturesEnd head (Faulty fault) old new
+going_broken head number fault old mid new g t = record {
   count = g.count + t.0;
   pictures = g.pictures;
   change = t.1.change ∙ ap (took places.Input t.0) g.change ∙ took_wrote g.count t.0 (stored_stream head g.pictures) old;
   are = g.are;
-  told = remains_broken head number g.count g.pictures old.input.bytes g.told
-      (along old mid g.count (stored_stream head g.pictures) (λ left. frame_step (most_pictures - number) head left ≡ Broken Form) g.change t.1.content);
+  told = remains_broken head number g.count g.pictures fault old.input.bytes g.told
+      (along old mid g.count (stored_stream head g.pictures) (λ left. frame_step (most_pictures - number) head left ≡ Broken fault) g.change t.1.content);
   taken = λ e. absurd (cc);
 }
 
-pub going_unread : (head : FilmHead) (number : ℕ) (old mid new : Seen) → Going head number old mid → ReadFailed mid new → PictureUnread head old new
+going_unread : (head : FilmHead) (number : ℕ) (old mid new : Seen) → Going head number old mid → ReadFailed mid new → PictureUnread head old new
 going_unread head number old mid new g failed =
     let m = failed.0 in
     record {
@@ -160,6 +165,27 @@ fits_still head old new same fits = record {
   cr_height = same.2.1 ∙ fits.cr_height;
 }
 
+-- the next picture wasn't read
+pub going_fault : (head : FilmHead) (number : ℕ) (old mid new : Seen) (end : StoreEnd) → Going head number old mid → (fault : FrameFault) → end ≡ frame_end fault → FrameEnd head number mid new fault
+    → PicturesLeft head old new (Err end)
+going_fault head number old mid new end g fault is left = subst (λ (e : StoreEnd). PicturesLeft head old new (Err e)) (sym is) (by fault left)
+  where
+    by : (f : FrameFault) → FrameEnd head number mid new f → PicturesLeft head old new (Err (frame_end f))
+    by (NotFrame picture) left = going_broken head number (faults.NotFrame picture) old mid new g left.1
+    by (CutFrame picture got) left = going_broken head number (faults.CutFrame picture got) old mid new g (got, left.1)
+    by TooLong left = going_broken head number faults.TooLong old mid new g (1, left.1)
+    by ReadFault left = going_unread head number old mid new g (left.count, left.failed)
+
+-- so of the read behind the last picture that a film may have
+pub last_fault : (head : FilmHead) (old new : Seen) (end : StoreEnd) (fault : FrameFault) → end ≡ frame_end fault → FrameEnd head 1000000 old new fault → EndLeft head old new (Err end)
+last_fault head old new end fault is left = subst (λ (e : StoreEnd). EndLeft head old new (Err e)) (sym is) (by fault left)
+  where
+    by : (f : FrameFault) → FrameEnd head 1000000 old new f → EndLeft head old new (Err (frame_end f))
+    by (NotFrame picture) left = left.1
+    by (CutFrame picture got) left = (got, left.1)
+    by TooLong left = (1, left.1)
+    by ReadFault left = (left.count, left.failed)
+
 -- what is written is the picture's access unit
 pub units_are : (unit written : List ℕ) (text : List Bool) → text ≡ bits_of_bytes unit → All IsByte unit → written ≡ bytes_of_bits text → written ≡ unit
 units_are unit written text is small shown = shown ∙ ap bytes_of_bits is ∙ bytes_of_bits-bits_of_bytes unit small
@@ -168,8 +194,8 @@ units_are unit written text is small shown = shown ∙ ap bytes_of_bits is ∙ b
 pub going_last : (head : FilmHead) (number : ℕ) (old mid new : Seen) → number ≡ 1000000 → Going head number old mid → (r : Result (Unit {0}) StoreEnd) → EndLeft head mid new r → PicturesLeft head old new r
 going_last head number old mid new last g (Ok done) t = going_end head number old mid new g t
 going_last head number old mid new last g (Err Read) t = going_unread head number old mid new g t
-going_last head number old mid new last g (Err (Input Form)) t =
-    going_broken head number old mid new g (subst (λ k. TookSome (λ left. frame_step k head left ≡ Broken Form) mid new) (none_more number last) t)
+going_last head number old mid new last g (Err (Input fault)) t =
+    going_broken head number fault old mid new g (subst (λ k. TookSome (λ left. frame_step k head left ≡ Broken fault) mid new) (none_more number last) t)
 going_last head number old mid new last g (Err Write) t = absurd t
 going_last head number old mid new last g (Err (Open place)) t = absurd t
 going_last head number old mid new last g (Err OutOfMemory) t = absurd t

@@ -6,7 +6,6 @@ use Rattle.enc_edge.specs.Seen.{Seen}
 use Rattle.enc_edge.specs.Calls.{LaterFailed, wrote, took}
 use Rattle.enc_edge.specs.Reads.{Took, TookSome, ReadFailed}
 use Rattle.spec_film.specs.declared.FilmHead.{FilmHead}
-use Rattle.spec_film.specs.declared.InputFault.TheVariants.{Form}
 use Rattle.spec_film.specs.Films.{Planes, FilmEnd, Ended, Faulty, Broken, most_pictures, frame_step, pictures_of}
 use Rattle.std.specs.List.{All}
 use Rattle.spec_stream.specs.Pictures.{IsPicture}
@@ -60,7 +59,7 @@ PicturesLeft head old new (Err OutOfMemory) = ⊥
 abbrev pub EndLeft : FilmHead → Seen → Seen → Result (Unit {0}) StoreEnd → Type 0
 EndLeft head old new (Ok done) = Took 0 (λ left. left ≡ []) old new
 EndLeft head old new (Err Read) = ReadFailed old new
-EndLeft head old new (Err (Input Form)) = TookSome (λ left. frame_step 0 head left ≡ Broken Form) old new
+EndLeft head old new (Err (Input fault)) = TookSome (λ left. frame_step 0 head left ≡ Broken fault) old new
 EndLeft head old new (Err Write) = ⊥
 EndLeft head old new (Err (Open place)) = ⊥
 EndLeft head old new (Err OutOfMemory) = ⊥

@@ -1,5 +1,5 @@
 -- What a run of `store` does to the outside.
-use Rattle.std.specs.Prelude.{ℕ, ◌≡◌, ◌≤◌, ◌++◌, List, [], take, drop, Some, None, IfSome}
+use Rattle.std.specs.Prelude.{ℕ, ◌≡◌, ◌≤◌, ◌++◌, List, [], take, drop, map, Some, None, IfSome}
 use Rattle.enc_edge.specs.declared.studio.Out.TheVariants.{Stream, Recon, Report}
 use Rattle.enc_edge.specs.declared.studio.Place.{Place}
 use Rattle.enc_edge.specs.declared.studio.Place.TheVariants.{Input, Output}
@@ -9,6 +9,7 @@ use Rattle.y4m_film.specs.Taken.{HeadIs, FilmTaken, IsFilm}
 use Rattle.spec_film.specs.declared.FilmHead.{FilmHead}
 use Rattle.spec_film.specs.declared.InputFault.{InputFault}
 use Rattle.spec_film.specs.Films.{Planes, FilmEnd, Ended, Faulty, film_of}
+use Rattle.spec_film.specs.Cropping.{shown}
 use Rattle.spec_decoder.specs.Frames.{decode}
 use Rattle.spec_stream.specs.Stored.{stored_stream}
 
@@ -21,14 +22,14 @@ abbrev pub storing : List ℕ → List ℕ → ℕ → List ℕ → Seen → See
 storing input output n text old = wrote (Output Stream) text (opened (Output Stream) output (reading input n old))
 
 -- the run is closed: each fault number is as before, the stream stands shut under its name, the input open under its name, all else is as before.
--- What was written is the stream that stores the pictures, and every decoder shows it as these pictures. Where the input's bytes are told, none is left of
--- them, and they are the film of these pictures.
+-- What was written is the stream that stores the padded pictures, and every decoder shows it as these pictures, cropped to the head's sizes. Where the
+-- input's bytes are told, none is left of them, and they are the film of these pictures.
 pub record Stored (input output : List ℕ) (old new : Seen) : Type 0 where
   pub count : ℕ
   pub head : FilmHead
   pub pictures : List Planes
   pub closed : new ≡ shut (Output Stream) (storing input output count (stored_stream head pictures) old)
-  pub shows : decode (stored_stream head pictures) ≡ Some pictures
+  pub shows : decode (stored_stream head pictures) ≡ Some (map (shown head) pictures)
   pub whole : IfSome old.input.bytes (λ left. (drop count left ≡ []) × IsFilm left head pictures Ended)
 
 -- the input stands open under its name, its head was read and no byte behind it

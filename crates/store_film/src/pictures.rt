@@ -6,15 +6,13 @@ ghost use Rattle.y4m_film.specs.Sizes.{FitsHead};
 ghost use Rattle.store_film.specs.Pictures.{EndLeft, PicturesLeft};
 
 use crate::StoreEnd;
+use crate::ends::frame_end;
 use bit_strings::BitBuf;
 use enc_edge::{Out, Studio, write_full};
 use picture_planes::Picture;
 use spec_film::{FilmHead, InputFault};
 use stored_picture::write_access_unit;
-use y4m_film::{FrameFault, next_picture};
-
-// The most pictures that a film may have.
-const MOST_PICTURES: u32 = 1_000_000;
+use y4m_film::{MOST_PICTURES, next_picture};
 
 // Stores the pictures that are left, one after another.
 pub(crate) fn store_pictures<S: Studio>(
@@ -34,8 +32,7 @@ pub(crate) fn store_pictures<S: Studio>(
         match next_picture(studio, head, number, picture) {
             Ok(true) => {}
             Ok(false) => return Ok(()),
-            Err(FrameFault::ReadFault) => return Err(StoreEnd::Read),
-            Err(FrameFault::Form) => return Err(StoreEnd::Input(InputFault::Form)),
+            Err(fault) => return Err(frame_end(fault)),
         }
         write_access_unit(units, payload, head, number, picture);
         match write_full(studio, Out::Stream, units.bytes()) {
@@ -57,9 +54,8 @@ fn end_pictures<S: Studio>(
     ensures { EndLeft head.now (S.seen studio.old) (S.seen studio.new) result }
 {
     match next_picture(studio, head, MOST_PICTURES, picture) {
-        Ok(true) => Err(StoreEnd::Input(InputFault::Form)),
+        Ok(true) => Err(StoreEnd::Input(InputFault::TooLong)),
         Ok(false) => Ok(()),
-        Err(FrameFault::ReadFault) => Err(StoreEnd::Read),
-        Err(FrameFault::Form) => Err(StoreEnd::Input(InputFault::Form)),
+        Err(fault) => Err(frame_end(fault)),
     }
 }

@@ -2,14 +2,14 @@
 ghost use Rattle.store_film.specs.Leaving.{Leaves};
 
 use crate::StoreEnd;
+use crate::ends::head_end;
 use crate::pictures::store_pictures;
 use bit_strings::BitBuf;
 use enc_edge::{Out, Place, Studio};
 use picture_planes::Picture;
-use spec_film::InputFault;
 use std::alloc::Global;
 use stored_picture::{payload_bytes, units_bytes};
-use y4m_film::{HeadFault, read_head};
+use y4m_film::read_head;
 
 /// Stores the film of one name as a stream under the other: each picture becomes an access unit of I_PCM macroblocks,
 /// which keeps every sample.
@@ -30,8 +30,7 @@ pub fn store<S: Studio>(
     }
     let head = match read_head(studio) {
         Ok(head) => head,
-        Err(HeadFault::ReadFault) => return Err(StoreEnd::Read),
-        Err(HeadFault::Form) => return Err(StoreEnd::Input(InputFault::Form)),
+        Err(fault) => return Err(head_end(fault)),
     };
     let Ok(mut picture) = Picture::new(alloc, head.width, head.height) else {
         return Err(StoreEnd::OutOfMemory);

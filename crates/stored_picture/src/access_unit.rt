@@ -4,6 +4,7 @@ ghost use Rattle.spec_bits.specs.Bits.{bits_of_bytes, bytes_of_bits};
 ghost use Rattle.spec_headers.specs.HeadFields.{sequence_payload, picture_payload};
 ghost use Rattle.spec_bits.specs.Units.{EndsWell, unit_bytes};
 ghost use Rattle.spec_film.specs.Films.{AllowedHead};
+ghost use Rattle.spec_film.specs.Padding.{padded_size};
 ghost use Rattle.spec_stream.specs.Pictures.{IsPicture};
 ghost use Rattle.spec_stream.specs.Stored.{stored_picture, stored_sequence, stored_slice_bits, mbs_across, mbs_down};
 ghost use Rattle.picture_planes.specs.Pictures.{planes_of};
@@ -102,8 +103,8 @@ fn append_slice(
     picture: &Picture,
 )
     requires head { AllowedHead head.now }
-    requires width { picture.now.y.width ≡ head.now.width }
-    requires height { picture.now.y.height ≡ head.now.height }
+    requires width { picture.now.y.width ≡ padded_size head.now.width }
+    requires height { picture.now.y.height ≡ padded_size head.now.height }
     requires whole { length units.old.text % 8 ≡ 0 }
     requires payload { 8 * payload_most head.now ≤ payload.old.room }
     requires room { length units.old.text + 8 * (5 + payload_most head.now + payload_most head.now / 2) ≤ units.old.room }
@@ -130,8 +131,8 @@ pub fn write_access_unit(
     picture: &Picture,
 )
     requires head { AllowedHead head.now }
-    requires width { picture.now.y.width ≡ head.now.width }
-    requires height { picture.now.y.height ≡ head.now.height }
+    requires width { picture.now.y.width ≡ padded_size head.now.width }
+    requires height { picture.now.y.height ≡ padded_size head.now.height }
     requires payload { 8 * payload_most head.now ≤ payload.old.room }
     requires units { 8 * units_most head.now ≤ units.old.room }
     ensures text { units.new ≡ record units.old { text = bits_of_bytes (stored_picture head.now number (planes_of picture.now)) } }

@@ -1,6 +1,8 @@
 use Rattle.std.proofs.Common.{refl, ap, ◌∙◌}
 use Rattle.bit_strings.specs.BitText.{BitText}
 use Rattle.spec_bits.specs.Bits.{bits_of_bytes}
+use Rattle.spec_film.specs.Cropping.{shown}
+use Rattle.picture_planes.specs.declared.picture.Picture.{Picture}
 use Rattle.picture_planes.specs.Pictures.{planes_of}
 use Rattle.spec_encoding.specs.Encoding.{encoded_picture}
 use Rattle.encode_film.proofs.Bytes.{picture_bytes, unit_is, kept_is}
@@ -44,8 +46,8 @@ returns-in-Ok-put_picture-clause-left g c =
     let empty = ap (λ (b : BitText). b.text) c.clear.ensures in
     let is = unit_is unit c.bytes.result.now c.code.new.out.text (text_is c.clear.new.self c.code.new.out (bits_of_bytes unit) empty c.in-Ok.ensures.unit.1) (picture_bytes head settings number source) c.bytes.ensures.bytes in
     let kept = c.code.new.self.coder.picture in
-    picture_encoded head settings number source (planes_of c.decoded.result.now) c.bytes.result.now (seen c.args.studio.now) (seen c.write_full.new.studio) (seen c.put_picture.new.studio) is
-    (ap planes_of c.decoded.ensures.value ∙ kept_is head settings number source kept c.requires.head c.code.ensures.sizes c.in-Ok.ensures.picture)
+    picture_encoded head settings number source (shown head (planes_of c.decoded.result.now)) c.bytes.result.now (seen c.args.studio.now) (seen c.write_full.new.studio) (seen c.put_picture.new.studio) is
+    (ap (λ (p : Picture). shown head (planes_of p)) c.decoded.ensures.value ∙ kept_is head settings number source kept c.in-Ok.ensures.picture)
     (unit_short head settings number source c.clear.new.self empty (ap (λ (b : BitText). b.room) c.clear.ensures ∙ c.requires.room) c.in-Ok.ensures.unit.0)
     c.in-Ok-write_full.ensures.ok c.in-Ok-put_picture.ensures.ok
 
@@ -61,7 +63,7 @@ returns-in-Err-put_picture-clause-left g c =
     let is = unit_is unit c.bytes.result.now c.code.new.out.text (text_is c.clear.new.self c.code.new.out (bits_of_bytes unit) empty c.in-Ok.ensures.unit.1) (picture_bytes head settings number source) c.bytes.ensures.bytes in
     let kept = c.code.new.self.coder.picture in (
       unit_short head settings number source c.clear.new.self empty (ap (λ (b : BitText). b.room) c.clear.ensures ∙ c.requires.room) c.in-Ok.ensures.unit.0,
-      shown_cut head settings number source (planes_of c.decoded.result.now) c.bytes.result.now (seen c.args.studio.now) (seen c.write_full.new.studio) (seen c.put_picture.new.studio) is
-          (ap planes_of c.decoded.ensures.value ∙ kept_is head settings number source kept c.requires.head c.code.ensures.sizes c.in-Ok.ensures.picture)
+      shown_cut head settings number source (shown head (planes_of c.decoded.result.now)) c.bytes.result.now (seen c.args.studio.now) (seen c.write_full.new.studio) (seen c.put_picture.new.studio) is
+          (ap (λ (p : Picture). shown head (planes_of p)) c.decoded.ensures.value ∙ kept_is head settings number source kept c.in-Ok.ensures.picture)
           c.in-Ok-write_full.ensures.ok c.in-Err-put_picture.ensures.err,
     )

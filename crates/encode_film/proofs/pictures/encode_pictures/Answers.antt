@@ -1,9 +1,9 @@
-use Rattle.std.proofs.Common.{◌≡◌, ◌≤◌, ◌-◌, ap, length, drop, Ok, Err, arith}
+use Rattle.std.proofs.Common.{◌≡◌, ◌≤◌, ◌-◌, ap, length, drop, Ok, arith}
 use Rattle.spec_film.specs.Films.{Next, most_pictures, frame_step}
 use Rattle.picture_planes.specs.Pictures.{planes_of}
 use Rattle.encode_film.specs.Pictures.{cut_head, PicturesLeft}
 use Rattle.y4m_film.proofs.Remaining.{of_both}
-use Rattle.encode_film.proofs.Going.{going_none, going_more, going_end, going_broken, going_unread, going_stopped, going_last, handed_on}
+use Rattle.encode_film.proofs.Going.{going_none, going_more, going_end, going_fault, going_stopped, going_last, handed_on}
 use Rattle.encode_film.proofs.Sizing.{sizes_still}
 use Rattle.encode_film.proofs.pictures.encode_pictures.Goals as goal
 
@@ -41,17 +41,11 @@ returns-in-Ok-false g c =
     going_end c.args.head.now c.args.settings.now c.loop-number.number (seen c.args.studio.now) (seen c.loop-number.studio) (seen c.next_picture.new.studio) c.loop-number.invariant.going
     (c.in-Ok-false.ensures.end (ap (λ b. Ok b) c.in-Ok-false.field-0-test))
 
-pub returns-in-Err-ReadFault : goal.returns-in-Err-ReadFault
-returns-in-Err-ReadFault g c =
+pub returns-in-Err-next_picture : goal.returns-in-Err-next_picture
+returns-in-Err-next_picture g c =
     let seen = g.S.Studio.seen in
-    going_unread c.args.head.now c.args.settings.now c.loop-number.number (seen c.args.studio.now) (seen c.loop-number.studio) (seen c.next_picture.new.studio) c.loop-number.invariant.going
-    (c.in-Err-ReadFault.ensures.read (ap (λ e. Err e) c.in-Err-ReadFault.field-0-is))
-
-pub returns-in-Err-Form : goal.returns-in-Err-Form
-returns-in-Err-Form g c =
-    let seen = g.S.Studio.seen in
-    going_broken c.args.head.now c.args.settings.now c.loop-number.number (seen c.args.studio.now) (seen c.loop-number.studio) (seen c.next_picture.new.studio) c.loop-number.invariant.going
-    (c.in-Err-Form.ensures.form (ap (λ e. Err e) c.in-Err-Form.field-0-is))
+    going_fault c.args.head.now c.args.settings.now c.loop-number.number (seen c.args.studio.now) (seen c.loop-number.studio) (seen c.next_picture.new.studio) c.frame_end.result c.loop-number.invariant.going
+    c.in-Err-next_picture.fault c.frame_end.ensures c.in-Err-next_picture.ensures.fault
 
 pub returns-in_err-encode_picture : goal.returns-in_err-encode_picture
 returns-in_err-encode_picture g c =

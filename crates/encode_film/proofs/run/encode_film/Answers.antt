@@ -2,20 +2,14 @@ use Rattle.std.proofs.Common.{ap, sym, ◌∙◌, Err}
 use Rattle.encode_film.specs.Leaving.{Leaves}
 use Rattle.encode_film.specs.Outputs.{named}
 use Rattle.encode_film.proofs.Going.{handed_on}
-use Rattle.encode_film.proofs.Running.{head_read, head_unread, no_head_there, slices_refused, head_passed, recon_unopened, both_open, stopped, closing}
+use Rattle.encode_film.proofs.Running.{head_read, head_stopped, slices_refused, head_passed, recon_unopened, both_open, stopped, closing}
 use Rattle.encode_film.proofs.run.encode_film.Goals as goal
 
-pub returns-in-Err-ReadFault : goal.returns-in-Err-ReadFault
-returns-in-Err-ReadFault g c =
+pub returns-in-Err-read_head : goal.returns-in-Err-read_head
+returns-in-Err-read_head g c =
     let seen = g.S.Studio.seen in
-    head_unread (named c.args.input.now c.args.stream.now c.args.recon.now) c.args.settings.now (seen c.args.studio.now) (seen c.open_in.new.self) (seen c.read_head.new.studio) c.in-Ok.ensures
-    (c.in-Err-ReadFault.ensures.read (ap (λ e. Err e) c.in-Err-ReadFault.field-0-is))
-
-pub returns-in-Err-Form : goal.returns-in-Err-Form
-returns-in-Err-Form g c =
-    let seen = g.S.Studio.seen in
-    no_head_there (named c.args.input.now c.args.stream.now c.args.recon.now) c.args.settings.now (seen c.args.studio.now) (seen c.open_in.new.self) (seen c.read_head.new.studio) c.in-Ok.ensures
-    (c.in-Err-Form.ensures.form (ap (λ e. Err e) c.in-Err-Form.field-0-is))
+    head_stopped (named c.args.input.now c.args.stream.now c.args.recon.now) c.args.settings.now (seen c.args.studio.now) (seen c.open_in.new.self) (seen c.read_head.new.studio) c.head_end.result c.in-Ok.ensures
+    c.in-Err-read_head.fault c.head_end.ensures (λ e. c.in-Err-read_head.ensures.read (ap (λ f. Err f) e)) c.in-Err-read_head.ensures.fault
 
 pub returns-then-has_too_many_slices : goal.returns-then-has_too_many_slices
 returns-then-has_too_many_slices g c =

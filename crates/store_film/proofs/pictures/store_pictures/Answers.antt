@@ -1,4 +1,4 @@
-use Rattle.std.proofs.Common.{◌≡◌, ◌≤◌, ◌-◌, ◌*◌, ◌∙◌, ap, sym, subst, length, drop, Ok, Err, arith}
+use Rattle.std.proofs.Common.{◌≡◌, ◌≤◌, ◌-◌, ◌*◌, ◌∙◌, ap, sym, subst, length, drop, Ok, arith}
 use Rattle.enc_edge.specs.declared.studio.Out.TheVariants.{Stream}
 use Rattle.enc_edge.specs.declared.studio.Place.TheVariants.{Output}
 use Rattle.enc_edge.specs.Calls.{wrote}
@@ -9,7 +9,7 @@ use Rattle.picture_planes.specs.Pictures.{planes_of}
 use Rattle.bit_strings.specs.BitText.{BitText}
 use Rattle.stored_picture.specs.Rooms.{payload_most, units_most}
 use Rattle.y4m_film.proofs.Remaining.{of_both}
-use Rattle.store_film.proofs.Storing.{going_none, going_more, going_end, going_broken, going_unread, going_unwritten, going_last, fits_still, units_are, bytes_whole}
+use Rattle.store_film.proofs.Storing.{going_none, going_more, going_end, going_fault, going_unwritten, going_last, fits_still, units_are, bytes_whole}
 use Rattle.store_film.proofs.pictures.store_pictures.Goals as goal
 
 pub loop-number-init : goal.loop-number-init
@@ -50,20 +50,14 @@ returns-in-Ok-false g c =
     going_end c.args.head.now c.loop-number.number (seen c.args.studio.now) (seen c.loop-number.studio) (seen c.next_picture.new.studio) c.loop-number.invariant.going
     (c.in-Ok-false.ensures.end (ap (λ b. Ok b) c.in-Ok-false.field-0-test))
 
-pub returns-in-Err-ReadFault : goal.returns-in-Err-ReadFault
-returns-in-Err-ReadFault g c =
-    let seen = g.S.Studio.seen in
-    going_unread c.args.head.now c.loop-number.number (seen c.args.studio.now) (seen c.loop-number.studio) (seen c.next_picture.new.studio) c.loop-number.invariant.going
-    (c.in-Err-ReadFault.ensures.read (ap (λ e. Err e) c.in-Err-ReadFault.field-0-is))
-
-pub returns-in-Err-Form : goal.returns-in-Err-Form
-returns-in-Err-Form g c =
-    let seen = g.S.Studio.seen in
-    going_broken c.args.head.now c.loop-number.number (seen c.args.studio.now) (seen c.loop-number.studio) (seen c.next_picture.new.studio) c.loop-number.invariant.going
-    (c.in-Err-Form.ensures.form (ap (λ e. Err e) c.in-Err-Form.field-0-is))
-
 pub returns-in-Err : goal.returns-in-Err
 returns-in-Err g c =
+    let seen = g.S.Studio.seen in
+    going_fault c.args.head.now c.loop-number.number (seen c.args.studio.now) (seen c.loop-number.studio) (seen c.next_picture.new.studio) c.frame_end.result c.loop-number.invariant.going
+    c.in-Err.fault c.frame_end.ensures c.in-Err.ensures.fault
+
+pub returns-in-Err-write_full : goal.returns-in-Err-write_full
+returns-in-Err-write_full g c =
     let seen = g.S.Studio.seen in
     let number = c.loop-number.number in
     let planes = planes_of c.next_picture.new.picture in
@@ -71,6 +65,6 @@ returns-in-Err g c =
     let t = c.in-Ok-true.ensures.picture (ap (λ b. Ok b) c.in-Ok-true.field-0-test) in
     let next = of_both (λ left. t.0 ≤ length left) (λ left. frame_step (most_pictures - number) c.args.head.now left ≡ Next planes (drop t.0 left)) (seen c.loop-number.studio).input.bytes t.1.content in
     let is = units_are unit c.bytes.result.now c.write_access_unit.new.units.text (ap (λ (b : BitText). b.text) c.write_access_unit.ensures.text) (stored_picture-are_bytes c.args.head.now number planes) c.bytes.ensures.bytes in
-    let short = c.in-Err.ensures.count in
-    going_unwritten c.args.head.now number t.0 c.in-Err.field-0.0 planes c.bytes.result.now (seen c.args.studio.now) (seen c.loop-number.studio) (seen c.next_picture.new.studio) (seen c.write_full.new.studio)
-    c.loop-number-test.true c.loop-number.invariant.going t.1.change next is (omega arith) c.in-Err.ensures.err c.write_access_unit.ensures.picture
+    let short = c.in-Err-write_full.ensures.count in
+    going_unwritten c.args.head.now number t.0 c.in-Err-write_full.field-0.0 planes c.bytes.result.now (seen c.args.studio.now) (seen c.loop-number.studio) (seen c.next_picture.new.studio) (seen c.write_full.new.studio)
+    c.loop-number-test.true c.loop-number.invariant.going t.1.change next is (omega arith) c.in-Err-write_full.ensures.err c.write_access_unit.ensures.picture

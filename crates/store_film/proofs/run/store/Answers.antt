@@ -1,20 +1,14 @@
 use Rattle.std.proofs.Common.{ap, Err}
 use Rattle.store_film.specs.Leaving.{Leaves}
 use Rattle.store_film.proofs.Storing.{handed_on}
-use Rattle.store_film.proofs.Running.{head_read, head_begun, stored, stopped, unclosed, head_unread, no_head_there}
+use Rattle.store_film.proofs.Running.{head_read, head_begun, stored, stopped, unclosed, head_stopped}
 use Rattle.store_film.proofs.run.store.Goals as goal
 
-pub returns-in-Err-ReadFault : goal.returns-in-Err-ReadFault
-returns-in-Err-ReadFault g c =
+pub returns-in-Err-read_head : goal.returns-in-Err-read_head
+returns-in-Err-read_head g c =
     let seen = g.S.Studio.seen in
-    head_unread c.args.input.now c.args.output.now (seen c.args.studio.now) (seen c.open_in.new.self) (seen c.read_head.new.studio) c.in-Ok.ensures
-    (c.in-Err-ReadFault.ensures.read (ap (λ e. Err e) c.in-Err-ReadFault.field-0-is))
-
-pub returns-in-Err-Form : goal.returns-in-Err-Form
-returns-in-Err-Form g c =
-    let seen = g.S.Studio.seen in
-    no_head_there c.args.input.now c.args.output.now (seen c.args.studio.now) (seen c.open_in.new.self) (seen c.read_head.new.studio) c.in-Ok.ensures
-    (c.in-Err-Form.ensures.form (ap (λ e. Err e) c.in-Err-Form.field-0-is))
+    head_stopped c.args.input.now c.args.output.now (seen c.args.studio.now) (seen c.open_in.new.self) (seen c.read_head.new.studio) c.head_end.result c.in-Ok.ensures
+    c.in-Err-read_head.fault c.head_end.ensures (λ e. c.in-Err-read_head.ensures.read (ap (λ f. Err f) e)) c.in-Err-read_head.ensures.fault
 
 pub returns-in_default : goal.returns-in_default
 returns-in_default g c =
