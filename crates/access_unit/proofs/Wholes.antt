@@ -136,3 +136,7 @@ unit_written h s number source r old mid new bits first good is wrote =
 -- the plans stay
 pub plans_kept : (old new : PictureCoder) (t8x8 : Bool) (source : Planes) → OnlyPictureDiffers old new → HasPlans old t8x8 source → HasPlans new t8x8 source
 plans_kept old new t8x8 source o h = rw (o.across, o.down, o.slices, o.plans) h
+
+-- a row of the film is a row of the padded picture
+pub below_rounded : (r n high : ℕ) → high ≡ rounded n → 16 * r < n → 16 * r < high
+below_rounded r n high e l = omega (arith, e, l)

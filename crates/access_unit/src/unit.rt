@@ -1,5 +1,5 @@
 // A whole access unit.
-ghost use Rattle.std.specs.Prelude.{◌≡◌, ◌≤◌, ◌+◌, ◌-◌, ◌%◌, [], length, true, OnOk};
+ghost use Rattle.std.specs.Prelude.{◌≡◌, ◌≤◌, ◌<◌, ◌+◌, ◌-◌, ◌*◌, ◌%◌, ℕ, [], length, true, OnOk, IsTrue};
 ghost use Rattle.enc_tables.specs.declared.SliceKind.TheVariants.{I};
 ghost use Rattle.picture_planes.specs.Pictures.{planes_of};
 ghost use Rattle.bit_strings.specs.BitText.{Appends};
@@ -61,6 +61,7 @@ pub fn plan_access_unit<R, G: Gate + Sync>(
     ensures planned { HasPlans coder.new settings.now.t8x8 (planes_of source.now) }
     ensures made { IsMadeFor coder.new head.now.width head.now.height settings.now.slices }
     ensures others { OnlyPlansDiffer coder.old coder.new }
+    ensures asked { (r : ℕ) → 16 * r < head.now.height → IsTrue (G.let_in gate.now r) }
 {
     coder.plan(rt, &job_of(settings, 0, source), gate);
 }

@@ -1,5 +1,5 @@
 // The outside: an input, three outputs, and the counts of their faults.
-ghost use Rattle.std.specs.Prelude.{◌≡◌, ◌<◌, ◌≤◌, [], length, take, MatchResult, IfSome, IfOk};
+ghost use Rattle.std.specs.Prelude.{◌≡◌, ◌<◌, ◌≤◌, [], length, take, MatchResult, IfSome, IfOk, ℕ, Bool, true, IsTrue};
 ghost use Rattle.enc_edge.specs.Seen.{Seen, spot_at};
 ghost use Rattle.enc_edge.specs.Calls.{OpeningFailed, LaterFailed, opened, shut, wrote, took};
 
@@ -83,9 +83,15 @@ pub trait Studio {
 }
 
 /// Who is asked once before each row of macroblocks is planned.
+///
+/// What is generic over gates knows that a row was let in by asking alone, since each gate has its own word for it.
 pub trait Gate {
+    /// Whether it let this row in.
+    ghost let_in: { Self → ℕ → Bool };
+
     /// Returns when the row may be planned.
-    fn enter(&self, row: u32);
+    fn enter(&self, row: u32)
+        ensures { IsTrue (let_in self.now row) };
 }
 
 /// A gate that lets each row pass at once.
@@ -93,5 +99,7 @@ pub trait Gate {
 pub struct OpenGate;
 
 impl Gate for OpenGate {
+    ghost let_in = { λ gate row. true };
+
     fn enter(&self, _row: u32) {}
 }

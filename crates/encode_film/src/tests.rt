@@ -1,4 +1,6 @@
 // Films of grey pictures, encoded over a studio in memory.
+ghost use Rattle.std.specs.Prelude.{true};
+
 use crate::{EncodeEnd, encode};
 use enc_edge::{Gate, MemStudio, OpenGate, Out};
 use spec_film::InputFault;
@@ -64,7 +66,8 @@ fn a_film_cut_in_its_second_picture(rt: HostRuntime) -> Result<(), Fail> {
         &mut studio,
         &OpenGate,
     );
-    assert_eq!(rt; end, Err(EncodeEnd::Input(InputFault::Form)));
+    let cut = InputFault::CutFrame { picture: 1, got: 8 };
+    assert_eq!(rt; end, Err(EncodeEnd::Input(cut)));
     assert_eq!(rt; studio.written(Out::Stream), UNIT.as_slice());
     let shown = grey_film(alloc, b"YUV4MPEG2 W16 H16 F25:1 Ip C420\n")?;
     assert_eq!(rt; studio.written(Out::Recon), shown.as_slice());
@@ -79,6 +82,8 @@ struct CountingGate {
 }
 
 impl Gate for CountingGate {
+    ghost let_in = { λ gate row. true };
+
     fn enter(&self, row: u32) {
         let count = self.rows.get(row as usize).unwrap_or(&self.others);
         count.fetch_add(1, Ordering::SeqCst);

@@ -2,6 +2,7 @@ pub mod Sharing
 pub mod Sizes
 pub mod OwnSizes
 pub mod Planning
+pub mod Asking
 pub mod Intra
 pub mod Written
 pub mod SliceRows

@@ -10,3 +10,9 @@ own_width c p is = is.luma.0 ∙ whole c.across
   where
     whole : (n : ℕ) → rounded (16 * n) ≡ 16 * n
     whole n = omega arith
+
+pub own_height : (c : PictureCoder) (p : Picture) → HasSizesOf c p → p.y.height ≡ 16 * c.down
+own_height c p is = is.luma.1 ∙ whole c.down
+  where
+    whole : (n : ℕ) → rounded (16 * n) ≡ 16 * n
+    whole n = omega arith

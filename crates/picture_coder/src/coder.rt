@@ -40,7 +40,7 @@ pub struct PictureCoder {
 }
 
 impl PictureCoder {
-    ghost use Rattle.std.specs.Prelude.{◌≡◌, ◌≤◌, ◌<◌, ◌+◌, ◌*◌, ◌/◌, ◌%◌, ◌==◌, true, [], length, max, IfOk, OnOk};
+    ghost use Rattle.std.specs.Prelude.{◌≡◌, ◌≤◌, ◌<◌, ◌+◌, ◌*◌, ◌/◌, ◌%◌, ◌==◌, ℕ, true, [], length, max, IfOk, OnOk, IsTrue};
     ghost use Rattle.enc_tables.specs.declared.SliceKind.TheVariants.{I};
     ghost use Rattle.picture_planes.specs.Pictures.{planes_of, SameShapes};
     ghost use Rattle.bit_strings.specs.BitText.{Appends};
@@ -116,6 +116,7 @@ impl PictureCoder {
         requires idr { job.now.step.idr ≡ true }
         ensures planned { HasPlans self.new job.now.t8x8 (planes_of job.now.source.now) }
         ensures others { OnlyPlansDiffer self.old self.new }
+        ensures asked { (r : ℕ) → 16 * r < job.now.source.now.y.height → IsTrue (G.let_in gate.now r) }
     {
         plan_picture(
             job.source,

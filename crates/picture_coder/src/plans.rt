@@ -1,5 +1,5 @@
 // All rows of a picture, planned.
-ghost use Rattle.std.specs.Prelude.{◌≡◌, ◌≤◌, ◌<◌, ◌+◌, ◌*◌, ◌/◌, ◌%◌, ℕ, length, get_or};
+ghost use Rattle.std.specs.Prelude.{◌≡◌, ◌≤◌, ◌<◌, ◌+◌, ◌*◌, ◌/◌, ◌%◌, ℕ, length, get_or, IsTrue};
 ghost use Rattle.enc_tables.specs.declared.plans.RowPlan.{RowPlan};
 ghost use Rattle.picture_planes.specs.Pictures.{planes_of};
 ghost use Rattle.picture_coder.specs.Planned.{row_at, AreRows, RowsPlanned, SlicesPlanned};
@@ -7,7 +7,7 @@ ghost use Rattle.picture_coder.specs.Planned.{row_at, AreRows, RowsPlanned, Slic
 use crate::rows::first_row;
 use enc_edge::Gate;
 use enc_tables::{RowPlan, SliceKind};
-use mode_choice::plan_row;
+use intra_plans::plan_row;
 use picture_planes::Picture;
 
 // Plans rows `first` to `end` - 1, which are those of a slice. The gate is asked before each row.
@@ -27,6 +27,7 @@ fn plan_slice<G: Gate + Sync>(
     ensures rows { AreRows (source.now.y.width / 16) plans.new }
     ensures planned { RowsPlanned (source.now.y.width / 16) first end t8x8 (planes_of source.now) plans.new }
     ensures above { (r : ℕ) (d : RowPlan) → r < first → get_or plans.new r d ≡ get_or plans.old r d }
+    ensures asked { (r : ℕ) → first ≤ r → r < end → IsTrue (G.let_in gate.now r) }
 {
     for row in first..end {
         gate.enter(row);
@@ -57,6 +58,7 @@ pub fn plan_picture<G: Gate + Sync>(
     ensures len { length plans.new ≡ length plans.old }
     ensures rows { AreRows (source.now.y.width / 16) plans.new }
     ensures planned { SlicesPlanned (source.now.y.width / 16) (length plans.new) slices t8x8 (planes_of source.now) slices plans.new }
+    ensures asked { (r : ℕ) → r < length plans.new → IsTrue (G.let_in gate.now r) }
 {
     let down = plans.len() as u32;
     for slice in 0..slices {

@@ -6,6 +6,7 @@ use Rattle.picture_planes.specs.Pictures.{planes_of}
 use Rattle.slice_coder.specs.Plans.{IsPlanned}
 use Rattle.picture_coder.specs.Planned.{place_at}
 use Rattle.picture_coder.proofs.Planning.{row_more, planned_row}
+use Rattle.picture_coder.proofs.Asking.{row_asked}
 use Rattle.picture_coder.proofs.plans.plan_slice.Goals as goal
 
 pub loop-row-preserved : goal.loop-row-preserved
@@ -27,4 +28,5 @@ loop-row-preserved g c =
       above = λ r d h.
           get_or-set_other c.loop-row.plans c.loop-row.row r c.plan_row.new.out d (omega (arith, h, c.loop-row.auto.row))
           ∙ c.loop-row.invariant.above r d h;
+      asked = row_asked (g.G.Gate.let_in c.args.gate.now) c.args.first c.loop-row.row c.loop-row.invariant.asked c.enter.ensures;
     }

@@ -1,4 +1,4 @@
-use Rattle.std.proofs.Common.{◌≡◌, ◌<◌, ◌/◌, ℕ, length, get_or}
+use Rattle.std.proofs.Common.{◌≡◌, ◌<◌, ◌≤◌, ◌/◌, ℕ, length, get_or, IsTrue}
 use Rattle.enc_tables.specs.declared.plans.RowPlan.{RowPlan}
 use Rattle.picture_planes.specs.Pictures.{planes_of}
 use Rattle.picture_coder.specs.Planned.{AreRows, RowsPlanned}
@@ -10,4 +10,5 @@ invariant-loop-row g l = record {
   rows : AreRows (l.source.y.width / 16) l.plans;
   planned : RowsPlanned (l.source.y.width / 16) l.first l.row l.t8x8 (planes_of l.source) l.plans;
   above : (r : ℕ) (d : RowPlan) → r < l.first → get_or l.plans r d ≡ get_or l.initial.plans r d;
+  asked : (r : ℕ) → l.first ≤ r → r < l.row → IsTrue (g.G.Gate.let_in l.gate r);
 }
