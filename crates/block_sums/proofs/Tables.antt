@@ -1,15 +1,15 @@
 -- Tables whose items are sums of 8x8 samples.
-use Rattle.std.proofs.Common.{◌≡◌, ℕ, zero, suc, ◌+◌, ◌-◌, ◌*◌, ◌<◌, ◌≤◌, List, length, get_or, refl, sym, ap, ◌∙◌, arith, zero-add}
+use Rattle.std.proofs.Common.{◌≡◌, ℕ, ◌+◌, ◌*◌, ◌<◌, ◌≤◌, List, length, get_or, ap, ◌∙◌, arith, zero-add}
 use Rattle.std.proofs.lemmas.Grind.{common_steps}
 use Rattle.std.proofs.lemmas.Int.{ints}
-use Rattle.std.specs.Prelude.{ℤ, pos, ◌+ℤ◌, ◌-ℤ◌}
+use Rattle.std.specs.Prelude.{ℤ, pos, ◌+ℤ◌}
 use Rattle.spec_kernels.specs.Sums.{block_sum}
 use Rattle.spec_kernels.proofs.SumLaws.{block-same}
 use Rattle.picture_planes.specs.declared.plane.Plane.{Plane}
 use Rattle.picture_planes.specs.Margins.{buffer_at, buffer_width, buffer_height, inward, nearest, IsFilled, IsBlock}
 use Rattle.block_sums.specs.declared.table.SumTable.{SumTable}
 use Rattle.block_sums.specs.Passes.{SquareAhead}
-use Rattle.block_sums.specs.Tables.{HasShapeOf, IsTableOf, table_width, table_height, sum_at}
+use Rattle.block_sums.specs.Tables.{IsTableOf, table_width, table_height, sum_at}
 use Rattle.block_sums.proofs.Doubling.{moved}
 
 pub any_default : (xs : List ℕ) (i d e : ℕ) → i < length xs → get_or xs i d ≡ get_or xs i e

@@ -1,5 +1,5 @@
 -- What a table of sums holds.
-use Rattle.std.specs.Prelude.{ℕ, ℤ, pos, slice_index, ◌+◌, ◌*◌, ◌<◌, ◌≤◌, ◌≡◌, ◌+ℤ◌, ◌≤ℤ◌}
+use Rattle.std.specs.Prelude.{ℕ, ℤ, pos, slice_index, ◌+◌, ◌*◌, ◌≤◌, ◌≡◌, ◌+ℤ◌, ◌≤ℤ◌}
 use Rattle.spec_kernels.specs.Sums.{block_sum}
 use Rattle.picture_planes.specs.declared.plane.Plane.{Plane}
 use Rattle.picture_planes.specs.Margins.{nearest, inward}

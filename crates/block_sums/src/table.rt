@@ -1,5 +1,5 @@
 // The table of sums, as large as the plane with its margin.
-ghost use Rattle.std.specs.Prelude.{◌≡◌, ◌≤◌, ◌<◌, ◌+◌, ◌*◌, ℕ, ℤ, pos, vec_len, IfOk, ◌+ℤ◌, ◌-ℤ◌, ◌≤ℤ◌};
+ghost use Rattle.std.specs.Prelude.{◌≡◌, ◌≤◌, ◌<◌, ◌+◌, ◌-◌, ◌*◌, ℕ, ℤ, pos, vec_len, length, slice_index, IfOk, ◌+ℤ◌, ◌-ℤ◌, ◌≤ℤ◌};
 ghost use Rattle.spec_kernels.specs.Sums.{block_sum};
 ghost use Rattle.picture_planes.specs.Margins.{IsFilled, nearest};
 
@@ -79,5 +79,15 @@ impl SumTable {
         ensures small { result < 65536 }
     {
         self.sums[row * (self.width + 2 * self.pad) as usize + column] as u32
+    }
+    /// The sums from column `column` and row `row` on, which are counted from the margin's corner, along the row.
+    #[inline(always)]
+    pub fn sums_from(&self, column: usize, row: usize) -> &[u16]
+        requires across { column < table_width self.now }
+        requires down { row < table_height self.now }
+        ensures value { (i : ℕ) → slice_index result.now i ≡ sum_at self.now (column + i) row }
+        ensures len { (w h : ℕ) → column + w ≤ table_width self.now → row + h ≤ table_height self.now → 0 < h → (h - 1) * table_width self.now + w ≤ length result.now }
+    {
+        &self.sums[row * (self.width + 2 * self.pad) as usize + column..]
     }
 }

@@ -12,7 +12,7 @@ use Rattle.motion_search.specs.declared.candidates.Found.{Found}
 use Rattle.motion_search.specs.Planes.{IsNear}
 use Rattle.motion_search.specs.Reached.{Reached}
 
-standing : (f : ℤ → ℤ → ℕ) (s : Spot) (n : ℕ) → s ≡ spot_at n → f (dx_of s) (dy_of s) ≡ scanned f n
+pub standing : (f : ℤ → ℤ → ℕ) (s : Spot) (n : ℕ) → s ≡ spot_at n → f (dx_of s) (dy_of s) ≡ scanned f n
 standing f s n e = ap (λ (t : Spot). f (dx_of t) (dy_of t)) e
 
 pub passed : (f g : ℤ → ℤ → ℕ) (n limit : ℕ) (s : Spot) (b : Found) → 0 < n → s ≡ spot_at n → Reached f g n b → limit ≡ g (dx_of s) (dy_of s) → g (dx_of s) (dy_of s) ≤ f (dx_of s) (dy_of s) → b.sad ≤ limit → Reached f g (n + 1) b

@@ -18,7 +18,7 @@ use Rattle.block_sums.specs.Tables.{IsTableOf, sum_at}
 use Rattle.motion_search.specs.Planes.{IsBlockIn, IsNear}
 use Rattle.motion_search.proofs.Costs.{away}
 
-within : (n k : ℕ) → (n ≡ 8) ⊎ (n ≡ 16) → k < n / 8 → 8 * k + 8 ≤ n
+pub within : (n k : ℕ) → (n ≡ 8) ⊎ (n ≡ 16) → k < n / 8 → 8 * k + 8 ≤ n
 within n k (inl e) p = let q = rw e at p in omega arith
 within n k (inr e) p = let q = rw e at p in omega arith
 

@@ -10,6 +10,8 @@ mod steps;
 mod window;
 
 pub use alone::search_alone;
+pub use bounds::own_sums;
+pub use candidates::after;
 pub use quarters::{refine, refine_from};
 pub use spec_search::{Best, Block};
 pub use steps::{Steps, begun};

@@ -1,5 +1,4 @@
-use Rattle.std.proofs.Common.{◌≡◌, ◌≤◌, ◌<◌, ◌+◌, ◌*◌, ℕ, get_or}
-use Rattle.block_sums.specs.Passes.{AtMost}
+use Rattle.std.proofs.Common.{◌≡◌, ◌≤◌, ◌<◌, ◌+◌, ℕ, get_or}
 use Rattle.block_sums.proofs.passes.add_ahead.Given as goal
 
 abbrev pub invariant-loop-i : goal.invariant-loop-i

@@ -1,4 +1,4 @@
-use Rattle.std.proofs.Common.{◌≡◌, ◌≤◌, ◌*◌, ℕ, arith}
+use Rattle.std.proofs.Common.{◌*◌, arith}
 use Rattle.block_sums.proofs.Doubling.{eight_ahead, most_of}
 use Rattle.block_sums.proofs.passes.add_eight.Goals as goal
 

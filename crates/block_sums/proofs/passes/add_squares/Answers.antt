@@ -1,4 +1,4 @@
-use Rattle.std.proofs.Common.{◌≡◌, ◌≤◌, ◌*◌, ℕ, List, subst, arith}
+use Rattle.std.proofs.Common.{◌*◌, ℕ, List, subst, arith}
 use Rattle.block_sums.specs.Passes.{SquareAhead}
 use Rattle.block_sums.proofs.Doubling.{square_ahead, most_of, bytes_low}
 use Rattle.block_sums.proofs.passes.add_squares.Goals as goal

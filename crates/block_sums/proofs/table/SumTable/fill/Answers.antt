@@ -1,4 +1,4 @@
-use Rattle.std.proofs.Common.{◌≡◌, ◌≤◌, ◌<◌, ◌+◌, ◌*◌, ◌∙◌, ℕ, arith, length, sym, ap, get_or, List, w32}
+use Rattle.std.proofs.Common.{◌+◌, ◌*◌, ◌∙◌, ℕ, arith, ap, get_or, List}
 use Rattle.std.proofs.lemmas.List.{with_items_is}
 use Rattle.block_sums.specs.Tables.{sum_at}
 use Rattle.block_sums.proofs.Tables.{sums_filled}

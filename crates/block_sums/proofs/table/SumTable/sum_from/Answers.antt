@@ -1,4 +1,4 @@
-use Rattle.std.proofs.Common.{◌≡◌, ◌≤◌, ◌<◌, ◌+◌, ◌*◌, ◌∙◌, ℕ, arith, length, sym, ap}
+use Rattle.std.proofs.Common.{◌+◌, ◌*◌, ◌∙◌, arith}
 use Rattle.block_sums.specs.Tables.{sum_at}
 use Rattle.block_sums.proofs.Tables.{any_default, in_table}
 use Rattle.block_sums.proofs.table.SumTable.sum_from.Goals as goal

@@ -1,0 +1,9 @@
+pub mod Summing
+pub mod Stepping
+pub mod Fours
+pub mod Planned
+pub mod Nines
+pub mod Counting
+pub mod Running
+pub mod Lows
+pub mod Following
