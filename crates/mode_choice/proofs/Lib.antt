@@ -1,5 +1,7 @@
-pub mod Leasts
-pub mod Bests
-pub mod Insides
-pub mod Planned
-pub mod Known
+pub mod Naming
+pub mod Bytes
+pub mod Finding
+pub mod Listing
+pub mod Parting
+pub mod BothLists
+pub mod RowPlans

@@ -1,1 +1,3 @@
-pub mod Inside
+pub mod Given
+pub mod Entries
+pub mod Parts

@@ -1,131 +1,143 @@
-// The intra part of a macroblock's plan.
-ghost use Rattle.std.specs.Prelude.{◌≡◌, ◌≤◌, ◌<◌, ◌+◌, ◌*◌, ◌/◌, ◌%◌, cond, replicate, ℕ};
-ghost use Rattle.enc_tables.specs.Plans.{blank_part};
-ghost use Rattle.picture_planes.specs.Samples.{samples_of};
-ghost use Rattle.picture_planes.specs.Pictures.{planes_of};
-ghost use Rattle.enc_tables.specs.Choice.{SmallCosts};
-ghost use Rattle.spec_intra.specs.Block.{line};
-ghost use Rattle.spec_choice.specs.IntraPlans.{best4_of, best8_of, total, intra_plan};
-ghost use Rattle.mode_choice.specs.Inside.{Inside};
+// The inter part of a macroblock's plan.
+ghost use Rattle.std.specs.Prelude.{◌≡◌, ◌≤◌, ◌<◌, ◌+◌, ◌*◌, ◌^◌, ℕ, length};
+ghost use Rattle.enc_tables.specs.declared.SliceKind.TheVariants.{I, P, B};
+ghost use Rattle.block_sums.specs.Tables.{IsTableOf};
+ghost use Rattle.motion_search.specs.Planes.{IsBlockOf};
+ghost use Rattle.ref_lists.specs.Entries.{ArePlaces};
+ghost use Rattle.ref_lists.specs.Held.{AreHeld};
+ghost use Rattle.spec_inter_plans.specs.InterPlans.{Search, at as block_at, inter_parts, parts_compared};
+ghost use Rattle.spec_partitions.specs.InRange.{HasEntries};
+ghost use Rattle.mode_choice.specs.Given.{IsSourceOf, sources_in, used};
+ghost use Rattle.mode_choice.specs.Parts.{part_at};
 
-use crate::blocks::{choose_chroma, choose4, choose8, choose16};
-use enc_tables::{MbPlan, Motion, PartPlan};
-use intra_pred::Avail;
-use picture_planes::{Picture, Plane};
-use plane_blocks::{near_block4, near_block8, near_macroblock};
+use crate::entries::best_of_list;
+use crate::partitions::{parts_of_both, parts_of_first};
+use block_sums::SumTable;
+use enc_tables::{Motion, PartPlan, SliceKind};
+use motion_search::Steps;
+use picture_planes::Plane;
+use ref_lists::Lists;
+use std::sync::ledger::Ledger;
 
-// The modes of a macroblock's 4x4 blocks, and what they cost together.
-#[derive(Clone, Copy)]
-struct Modes4 {
-    modes: [u8; 16],
-    cost: u32,
+/// The inter part of a macroblock's plan.
+#[derive(Clone, Copy, Drop)]
+pub struct InterPlan {
+    /// The nine partitions.
+    pub parts: [PartPlan; 9],
+    /// How many vectors were compared for them.
+    pub compared: u64,
 }
 
-// The modes of a macroblock's 8x8 blocks, and what they cost together.
-#[derive(Clone, Copy)]
-struct Modes8 {
-    modes: [u8; 4],
-    cost: u32,
-}
-
-#[tactic(auto, unfolding(spec_choice::specs::IntraPlans::total, spec_basics::specs::Sums::sum_below))]
-fn plan4(luma: &Plane, mb: &Avail, x: u32, y: u32) -> Modes4
-    requires { Inside luma.now mb.now x y }
-    ensures modes { result.modes ≡ line 16 (λ b. (best4_of luma.now.width (samples_of luma.now) mb.now x y b).mode) }
-    ensures cost { result.cost ≡ total 16 (λ b. (best4_of luma.now.width (samples_of luma.now) mb.now x y b).cost) }
-    ensures small { result.cost ≤ 65280 }
+// Intra slices have no inter part.
+fn plan_of_i() -> InterPlan
+    ensures parts { (s : Search) (x y : ℕ) → result.parts ≡ inter_parts I s x y }
+    ensures compared { (s : Search) (x y : ℕ) → result.compared ≡ parts_compared (used I s) x y }
+    ensures nothing { result.compared ≡ 0 }
+    ensures long { length result.parts ≡ 9 }
+    ensures small { (k : ℕ) → k < 9 → (part_at result.parts k).cost ≤ 65310 }
 {
-    let mut modes = [0; 16];
-    let mut cost = 0;
-    for b in 0..16u32 {
-        let column = 2 * (b / 4 % 2) + b % 2;
-        let row = 2 * (b / 8) + b / 2 % 2;
-        let near = near_block4(mb, column, row);
-        let best = choose4(luma, &near, x + 4 * column, y + 4 * row);
-        modes[b as usize] = best.mode;
-        cost += best.cost;
-    }
-    Modes4 { modes, cost }
-}
-
-#[tactic(auto, unfolding(spec_choice::specs::IntraPlans::total, spec_basics::specs::Sums::sum_below))]
-fn plan8(luma: &Plane, mb: &Avail, x: u32, y: u32) -> Modes8
-    requires { Inside luma.now mb.now x y }
-    ensures modes { result.modes ≡ line 4 (λ k. (best8_of luma.now.width (samples_of luma.now) mb.now x y k).mode) }
-    ensures cost { result.cost ≡ total 4 (λ k. (best8_of luma.now.width (samples_of luma.now) mb.now x y k).cost) }
-    ensures small { result.cost ≤ 65280 }
-{
-    let mut modes = [0; 4];
-    let mut cost = 0;
-    for k in 0..4u32 {
-        let column = k % 2;
-        let row = k / 2;
-        let near = near_block8(mb, column, row);
-        let best = choose8(luma, &near, x + 8 * column, y + 8 * row);
-        modes[k as usize] = best.mode;
-        cost += best.cost;
-    }
-    Modes8 { modes, cost }
-}
-
-// The plan of the 8x8 blocks where there may be any.
-fn quarters(luma: &Plane, mb: &Avail, x: u32, y: u32, t8x8: bool) -> Modes8
-    requires { Inside luma.now mb.now x y }
-    ensures modes { result.modes ≡ cond t8x8 (line 4 (λ k. (best8_of luma.now.width (samples_of luma.now) mb.now x y k).mode)) (replicate 4 0) }
-    ensures cost { result.cost ≡ cond t8x8 (total 4 (λ k. (best8_of luma.now.width (samples_of luma.now) mb.now x y k).cost)) 0 }
-    ensures small { result.cost ≤ 65280 }
-{
-    if t8x8 {
-        plan8(luma, mb, x, y)
-    } else {
-        Modes8 {
-            modes: [0; 4],
-            cost: 0,
-        }
-    }
-}
-
-fn no_parts() -> [PartPlan; 9]
-    ensures { result ≡ replicate 9 blank_part }
-{
-    [PartPlan {
+    let parts = [PartPlan {
         motion: Motion::NONE,
         cost: 0,
-    }; 9]
+    }; 9];
+    InterPlan { parts, compared: 0 }
 }
 
-/// The intra part of a macroblock's plan. The macroblock is in column `column` of row `row`; the picture has `width`
-/// macroblocks in a row, and the slice begins with row `first_row`.
-pub fn plan_macroblock(
-    source: &Picture,
-    width: u32,
-    first_row: u32,
-    row: u32,
-    column: u32,
-    t8x8: bool,
-) -> MbPlan
-    requires width { source.now.y.width ≡ 16 * width }
-    requires row { 16 * row + 16 ≤ source.now.y.height }
-    requires column { column < width }
-    requires first { first_row ≤ row }
-    ensures plan { result ≡ intra_plan width first_row t8x8 (planes_of source.now) row column }
-    ensures small { SmallCosts result }
+fn plan_of_p<L: Ledger>(
+    source: &Plane,
+    source_sums: &SumTable,
+    lists: &Lists<'_>,
+    x: u32,
+    y: u32,
+    range: u32,
+    steps: &mut Steps<L>,
+) -> InterPlan
+    requires some { 0 < length lists.now.list0.items }
+    requires few { length lists.now.list0.items ≤ 4 }
+    requires inside { ArePlaces (length lists.now.held.now) lists.now.list0.items }
+    requires held { AreHeld source.now.width source.now.height lists.now.held.now }
+    requires sums { IsTableOf source_sums.now source.now }
+    requires macroblock { IsBlockOf source.now (block_at x y 16 16) }
+    requires range { (1 ≤ range) × (range ≤ 32) }
+    ensures parts { (s : Search) → IsSourceOf s source.now → s.range ≡ range → s.sources ≡ sources_in lists.now → result.parts ≡ inter_parts P s x y }
+    ensures compared { (s : Search) → IsSourceOf s source.now → s.range ≡ range → s.sources ≡ sources_in lists.now → result.compared ≡ parts_compared (used P s) x y }
+    ensures counted { steps.new ≡ steps.old + result.compared }
+    ensures most { result.compared ≤ 2 ^ 34 }
+    ensures long { length result.parts ≡ 9 }
+    ensures small { (k : ℕ) → k < 9 → (part_at result.parts k).cost ≤ 65310 }
 {
-    let mb = near_macroblock(width, first_row, row, column);
-    let whole = choose16(&source.y, &mb, 16 * column, 16 * row);
-    let quarters = quarters(&source.y, &mb, 16 * column, 16 * row, t8x8);
-    let small = plan4(&source.y, &mb, 16 * column, 16 * row);
-    let chroma = choose_chroma(&source.cb, &source.cr, &mb, 8 * column, 8 * row);
-    let modes8 = quarters.modes;
-    let modes4 = small.modes;
-    let intra = [whole.cost, quarters.cost, small.cost];
-    let parts = no_parts();
-    MbPlan {
-        mode16: whole.mode,
-        modes8,
-        modes4,
-        chroma_mode: chroma.mode,
-        intra,
+    let list0 = lists.list0.as_slice();
+    let best = best_of_list(source, source_sums, lists.held, list0, x, y, range, steps);
+    let parts = parts_of_first(&best.entries);
+    InterPlan {
         parts,
+        compared: best.compared,
+    }
+}
+
+fn plan_of_b<L: Ledger>(
+    source: &Plane,
+    source_sums: &SumTable,
+    lists: &Lists<'_>,
+    x: u32,
+    y: u32,
+    range: u32,
+    steps: &mut Steps<L>,
+) -> InterPlan
+    requires some { (0 < length lists.now.list0.items) × (0 < length lists.now.list1.items) }
+    requires few { (length lists.now.list0.items ≤ 4) × (length lists.now.list1.items ≤ 4) }
+    requires inside { ArePlaces (length lists.now.held.now) lists.now.list0.items × ArePlaces (length lists.now.held.now) lists.now.list1.items }
+    requires held { AreHeld source.now.width source.now.height lists.now.held.now }
+    requires sums { IsTableOf source_sums.now source.now }
+    requires macroblock { IsBlockOf source.now (block_at x y 16 16) }
+    requires range { (1 ≤ range) × (range ≤ 32) }
+    ensures parts { (s : Search) → IsSourceOf s source.now → s.range ≡ range → s.sources ≡ sources_in lists.now → result.parts ≡ inter_parts B s x y }
+    ensures compared { (s : Search) → IsSourceOf s source.now → s.range ≡ range → s.sources ≡ sources_in lists.now → result.compared ≡ parts_compared (used B s) x y }
+    ensures counted { steps.new ≡ steps.old + result.compared }
+    ensures most { result.compared ≤ 2 ^ 35 }
+    ensures long { length result.parts ≡ 9 }
+    ensures small { (k : ℕ) → k < 9 → (part_at result.parts k).cost ≤ 65310 }
+{
+    let list0 = lists.list0.as_slice();
+    let list1 = lists.list1.as_slice();
+    let held = lists.held;
+    let first = best_of_list(source, source_sums, held, list0, x, y, range, steps);
+    let second = best_of_list(source, source_sums, held, list1, x, y, range, steps);
+    let parts = parts_of_both(source, lists, x, y, &first.entries, &second.entries);
+    InterPlan {
+        parts,
+        compared: first.compared + second.compared,
+    }
+}
+
+/// The inter part of the plan of the macroblock at (`x`, `y`), over the pictures of the lists that a slice of this kind has.
+pub fn plan_inter<L: Ledger>(
+    source: &Plane,
+    source_sums: &SumTable,
+    lists: &Lists<'_>,
+    kind: SliceKind,
+    x: u32,
+    y: u32,
+    range: u32,
+    steps: &mut Steps<L>,
+) -> InterPlan
+    requires entries { HasEntries kind (length lists.now.list0.items) (length lists.now.list1.items) }
+    requires few { (length lists.now.list0.items ≤ 4) × (length lists.now.list1.items ≤ 4) }
+    requires inside { ArePlaces (length lists.now.held.now) lists.now.list0.items × ArePlaces (length lists.now.held.now) lists.now.list1.items }
+    requires held { AreHeld source.now.width source.now.height lists.now.held.now }
+    requires sums { IsTableOf source_sums.now source.now }
+    requires macroblock { IsBlockOf source.now (block_at x y 16 16) }
+    requires range { (1 ≤ range) × (range ≤ 32) }
+    ensures parts { (s : Search) → IsSourceOf s source.now → s.range ≡ range → s.sources ≡ sources_in lists.now → result.parts ≡ inter_parts kind s x y }
+    ensures compared { (s : Search) → IsSourceOf s source.now → s.range ≡ range → s.sources ≡ sources_in lists.now → result.compared ≡ parts_compared (used kind s) x y }
+    ensures counted { steps.new ≡ steps.old + result.compared }
+    ensures most { result.compared ≤ 2 ^ 35 }
+    ensures long { length result.parts ≡ 9 }
+    ensures small { (k : ℕ) → k < 9 → (part_at result.parts k).cost ≤ 65310 }
+{
+    match kind {
+        SliceKind::I => plan_of_i(),
+        SliceKind::P => plan_of_p(source, source_sums, lists, x, y, range, steps),
+        SliceKind::B => plan_of_b(source, source_sums, lists, x, y, range, steps),
     }
 }

@@ -7,7 +7,7 @@ ghost use Rattle.slice_coder.specs.Plans.{ArePlanned, place_of};
 use crate::code_slice;
 use bit_strings::BitBuf;
 use enc_tables::{MbKind, MbRecord, Motion, RowPlan, SliceKind, Vector};
-use mode_choice::plan_row;
+use intra_plans::plan_row;
 use picture_planes::Picture;
 use spec_headers::SliceHead;
 use std::alloc::{AllocError as OutOfMemory, Global};

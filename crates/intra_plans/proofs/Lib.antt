@@ -1,0 +1,5 @@
+pub mod Leasts
+pub mod Bests
+pub mod Insides
+pub mod Planned
+pub mod Known
