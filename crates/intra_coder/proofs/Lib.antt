@@ -4,3 +4,4 @@ pub mod LumaLaws
 pub mod Luma16Laws
 pub mod ChromaLaws
 pub mod MacroblockLaws
+pub mod FlatLaws

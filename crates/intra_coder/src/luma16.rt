@@ -17,23 +17,15 @@ ghost use Rattle.spec_residual.specs.Levels.{IsMade};
 ghost use Rattle.spec_residual.specs.declared.BlockKind.TheVariants.{Luma4, LumaDc};
 
 use crate::near::near16;
-use crate::places::{block_column, block_row};
 use intra_pred::pred16;
 use picture_planes::Plane;
 use residual_coder::{
-    block_of, block4_at, built_with_dc, levels_without_dc, spectrum4, write_block, zigzag4,
+    block_column, block_row, block4_at, built_with_dc, levels_without_dc, part16, spectrum4,
+    write_block, zigzag4,
 };
 use spec_reconstruction::Site;
 use spec_residual::BlockKind;
 use transform_quant::{luma_dc, quantise4, rescale_luma_dc};
-
-#[inline(always)]
-fn part16(prediction: &[u8; 256], b: u32) -> [u8; 16]
-    requires { b < 16 }
-    ensures { result ≡ part16 prediction.now b }
-{
-    block_of(16, prediction, 4 * block_column(b), 4 * block_row(b))
-}
 
 // The coefficients of block `b`.
 #[inline(always)]
@@ -52,9 +44,9 @@ fn spectrum16(source: &Plane, site: &Site, prediction: &[u8; 256], b: u32) -> [i
     spectrum4(&original, &part)
 }
 
-// Levels in zigzag order, row by row.
+/// Levels in zigzag order, row by row.
 #[inline(always)]
-fn unscanned(levels: &[i16; 16], qp: u8) -> [i16; 16]
+pub fn unscanned(levels: &[i16; 16], qp: u8) -> [i16; 16]
     requires small { AllWithin 16 8191 levels.now }
     requires made { (s : ℕ) → s < 16 → IsMade LumaDc true qp (slice_index ZIGZAG4 s) (item levels.now s) }
     ensures value { result ≡ unscanned levels.now }
@@ -159,7 +151,8 @@ fn build_block16(
     write_block(plane, top, x, y, 4, &samples);
 }
 
-fn build_luma16(
+/// Builds the luma samples in the plane from the DC coefficients and the levels of the others.
+pub fn build_luma16(
     plane: &mut Plane,
     top: u32,
     site: &Site,

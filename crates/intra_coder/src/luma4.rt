@@ -7,11 +7,10 @@ ghost use Rattle.picture_planes.specs.Samples.{SameShape, samples_of};
 ghost use Rattle.spec_reconstruction.specs.Luma.{build4, choose4, luma4_built, luma4_levels, prediction4};
 
 use crate::near::near4;
-use crate::places::{block_column, block_row};
 use intra_pred::pred4;
 use picture_planes::Plane;
 use plane_blocks::near_block4;
-use residual_coder::{block4_at, code4, write_block};
+use residual_coder::{block_column, block_row, block4_at, code4, write_block};
 use spec_reconstruction::Site;
 
 #[inline(always)]

@@ -49,8 +49,9 @@ fn record_of(luma: &Luma, chroma_mode: u8, qp: u8, dc: &[i16; 8], ac: &[i16; 120
     }
 }
 
+/// The modes of an Intra_16x16 macroblock: the first place has its mode.
 #[inline(always)]
-fn first_mode(mode: u8) -> [u8; 16]
+pub fn first_mode(mode: u8) -> [u8; 16]
     ensures { result ≡ mode ∷ replicate 15 0 }
 {
     let mut modes = [0u8; 16];

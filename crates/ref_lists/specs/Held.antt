@@ -4,6 +4,7 @@ use Rattle.std.specs.List.{AllByRecursion}
 use Rattle.picture_planes.specs.Pictures.{planes_of, AreFilled}
 use Rattle.block_sums.specs.Tables.{HasShapeOf, IsTableOf}
 use Rattle.spec_lists.specs.References.{Reference as Shown}
+use Rattle.subpel_filter.specs.Halves.{AreSized, AreHalves}
 use Rattle.ref_lists.specs.declared.held.Reference.{Reference}
 
 -- a number that isn't below 0
@@ -41,12 +42,14 @@ pub record IsMade (width height : ℕ) (r : Reference) : Type 0 where
   pub cb : (r.picture.cb.width ≡ width / 2) × (r.picture.cb.height ≡ height / 2) × (r.picture.cb.pad ≡ 20)
   pub cr : (r.picture.cr.width ≡ width / 2) × (r.picture.cr.height ≡ height / 2) × (r.picture.cr.pad ≡ 20)
   pub sums : HasShapeOf r.sums r.picture.y
+  pub halves : AreSized r.picture.y r.halves
   pub records : length r.records.items ≡ width / 16 * (height / 16)
 
--- the margins are filled, and the table of sums is that of the luma plane
+-- the margins are filled, and the table of sums and the half planes are those of the luma plane
 pub record IsReady (r : Reference) : Type 0 where
   pub filled : AreFilled r.picture
   pub table : IsTableOf r.sums r.picture.y
+  pub halves : AreHalves r.picture.y r.halves
 
 -- The frame_num of each reference is one more than that of the one behind it; `next` is that of the picture that follows the first.
 abbrev pub Counts : ℕ → List Shown → Type 0

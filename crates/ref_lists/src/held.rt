@@ -1,10 +1,12 @@
 // A reference picture.
 ghost use Rattle.std.specs.Prelude.{◌≡◌, ◌≤◌, ◌*◌, ◌/◌, ℕ, IfOk};
+ghost use Rattle.subpel_filter.specs.Halves.{AreSized};
 
 use block_sums::SumTable;
 use enc_tables::{Motion, Vector};
-use picture_planes::Picture;
+use picture_planes::{Picture, Plane};
 use std::alloc::{AllocError as OutOfMemory, Global};
+use subpel_filter::{HalfPlanes, fill_halves};
 
 /// A picture as later pictures refer to it.
 #[derive(Drop)]
@@ -13,12 +15,27 @@ pub struct Reference {
     pub picture: Picture,
     /// The sums of its 8x8 blocks of luma samples.
     pub sums: SumTable,
+    /// The half samples of its luma plane.
+    pub halves: HalfPlanes,
     /// Of each macroblock whether it is an intra one, and the motion of its four 8x8 blocks.
     pub records: Vec<(bool, [Motion; 4])>,
     /// Its picture order count since the last IDR picture (PicOrderCnt).
     pub poc: i32,
     /// Its frame_num.
     pub frame_num: u16,
+}
+
+// Half planes of the size and margin of a plane, blank.
+fn blank_halves(alloc: Global, plane: &Plane) -> Result<HalfPlanes, OutOfMemory>
+    requires width { (1 ≤ plane.now.width) × (plane.now.width ≤ 4096) }
+    requires height { (1 ≤ plane.now.height) × (plane.now.height ≤ 2304) }
+    requires pad { plane.now.pad ≤ 40 }
+    ensures { IfOk result (λ h. AreSized plane.now h) }
+{
+    let b = Plane::new(alloc, plane.width, plane.height, plane.pad)?;
+    let h = Plane::new(alloc, plane.width, plane.height, plane.pad)?;
+    let j = Plane::new(alloc, plane.width, plane.height, plane.pad)?;
+    Ok(HalfPlanes { b, h, j })
 }
 
 impl Reference {
@@ -35,6 +52,7 @@ impl Reference {
     {
         let picture = Picture::new(alloc, width, height)?;
         let sums = SumTable::new(alloc, picture.y.width, picture.y.height, 40)?;
+        let halves = blank_halves(alloc, &picture.y)?;
         let count = (picture.y.width / 16 * (picture.y.height / 16)) as usize;
         let still = Motion {
             refs: [-1, -1],
@@ -44,15 +62,17 @@ impl Reference {
         Ok(Reference {
             picture,
             sums,
+            halves,
             records,
             poc: 0,
             frame_num: 0,
         })
     }
 
-    // Fills the margins and the table of sums; all that is seen of the reference stays.
+    // Fills the margins, the table of sums and the half planes; all that is seen of the reference stays.
     pub(crate) fn make_ready(&mut self)
-        requires { HasShapeOf self.old.sums self.old.picture.y }
+        requires sums { HasShapeOf self.old.sums self.old.picture.y }
+        requires halves { AreSized self.old.picture.y self.old.halves }
         ensures ready { IsReady self.new }
         ensures made { (width height : ℕ) → IsMade width height self.old → IsMade width height self.new }
         ensures seen { seen self.new ≡ seen self.old }
@@ -61,5 +81,7 @@ impl Reference {
     {
         self.picture.pad_edges();
         self.sums.fill(&self.picture.y);
+        let picture = &self.picture;
+        fill_halves(&picture.y, &mut self.halves);
     }
 }

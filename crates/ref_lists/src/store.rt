@@ -75,8 +75,8 @@ impl RefStore {
         self.count = 0;
     }
 
-    /// Takes in a new reference, fills its margins and its table of sums, and lets the oldest one go where there is no free place. Where
-    /// others are held its frame_num is one more than that of the newest, and its order count is above that one's. What `new` has
+    /// Takes in a new reference, fills its margins, its table of sums and its half planes, and lets the oldest one go where there is no
+    /// free place. Where others are held its frame_num is one more than that of the newest, and its order count is above that one's. What `new` has
     /// afterwards is of the store's size too.
     pub fn slide(&mut self, new: &mut Reference)
         requires made { IsMade (width_of self.old) (height_of self.old) new.old }

@@ -14,7 +14,7 @@ use Rattle.spec_reconstruction.specs.Parts.{block_at, with_block}
 use Rattle.spec_reconstruction.specs.Residuals.{built_with_dc, spectrum4, levels_without_dc}
 use Rattle.spec_reconstruction.specs.InOrder.{joined, built_in_order}
 use Rattle.spec_reconstruction.specs.Chroma.{chroma_qp, xc, yc, part_chroma, build_chroma, chroma_over, spectrum_chroma, chroma_dc_levels, chroma_ac_levels}
-use Rattle.residual_coder.specs.Made.{IsQuantised, others_chroma}
+use Rattle.residual_coder.specs.Made.{ChromaQuantised, IsQuantised, others_chroma}
 use Rattle.residual_coder.proofs.BlockLaws.{zero_within}
 use Rattle.residual_coder.proofs.ZeroLaws.{zero_made}
 
@@ -76,3 +76,7 @@ pub made_dc : (intra : Bool) (qp : ℕ) (xs levels : List ℤ) → levels ≡ ch
 made_dc intra qp xs levels is small p h =
     let P : List ℤ → Type 0 = λ l. IsMade ChromaDc intra qp p (item l p) in
     subst P (sym is) (made_one intra qp xs small p h)
+
+-- by either name of the quantisation parameter
+pub chroma_quantised : (qp qp' : ℕ) (dc ac : List ℤ) → qp ≡ qp' → ChromaQuantised qp dc ac → ChromaQuantised qp' dc ac
+chroma_quantised qp qp' dc ac e q = subst (λ (v : ℕ). ChromaQuantised v dc ac) e q

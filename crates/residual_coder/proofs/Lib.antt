@@ -5,3 +5,4 @@ pub mod InOrderLaws
 pub mod ZeroLaws
 pub mod ChromaLaws
 pub mod PatternLaws
+pub mod NoLevels

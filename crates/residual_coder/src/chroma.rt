@@ -1,7 +1,7 @@
 // The samples of a chroma component of a macroblock.
 ghost use Rattle.std.specs.Prelude.{◌≡◌, ◌≤◌, ◌<◌, ◌+◌, ◌*◌, ◌/◌, ◌%◌, ◌∷◌, ℕ, pos, length, slice_index};
 ghost use Rattle.residual_coder.specs.Inside.{Inside, IsSource};
-ghost use Rattle.residual_coder.specs.Made.{FoursQuantised, IsQuantised, others_chroma};
+ghost use Rattle.residual_coder.specs.Made.{ChromaQuantised, FoursQuantised, IsQuantised, others_chroma};
 ghost use Rattle.residual_coder.specs.Stripes.{samples_from};
 ghost use Rattle.picture_planes.specs.Samples.{SameShape, samples_of};
 ghost use Rattle.spec_reconstruction.specs.Chroma.{build_chroma, chroma_ac_levels, chroma_dc_levels, chroma_over, chroma_qp, part_chroma, spectrum_chroma};
@@ -181,8 +181,48 @@ pub struct Chroma {
     pub ac: [i16; 60],
 }
 
-/// Codes a chroma component of a macroblock over a prediction of its samples, and builds them in the component's plane, which has the
-/// picture's rows from `top` on. The quantiser rounds as for intra macroblocks where `intra` is set, and else as for inter macroblocks.
+/// The levels of a chroma component of a macroblock over a prediction of its samples. The quantiser rounds as for intra macroblocks where
+/// `intra` is set, and else as for inter macroblocks.
+pub fn chroma_levels(source: &Plane, site: &Site, intra: bool, prediction: &[u8; 64]) -> Chroma
+    requires in_range { site.now.qp ≤ 51 }
+    requires columns { site.now.x / 2 + 8 ≤ source.now.width }
+    requires rows { site.now.y / 2 + 8 ≤ source.now.height }
+    ensures dc { result.dc ≡ chroma_dc_levels intra source.now.width site.now (samples_of source.now) prediction.now }
+    ensures ac { result.ac ≡ chroma_ac_levels intra source.now.width site.now (samples_of source.now) prediction.now }
+    ensures quantised { ChromaQuantised (chroma_qp site.now.qp) result.dc result.ac }
+{
+    let qp = chroma_qp(site.qp);
+    let spectra = spectra_chroma(source, site, intra, qp, prediction);
+    let means = chroma_dc(&spectra.firsts);
+    let quantised = quantise_chroma_dc(intra, qp, &means);
+    let dc = quantised.levels;
+    let ac = spectra.ac;
+    Chroma { dc, ac }
+}
+
+/// Builds a chroma component of a macroblock from its levels over a prediction, as a decoder does, in the component's plane, which has the
+/// picture's rows from `top` on.
+pub fn build_chroma(
+    plane: &mut Plane,
+    top: u32,
+    site: &Site,
+    prediction: &[u8; 64],
+    levels: &Chroma,
+)
+    requires in_range { site.now.qp ≤ 51 }
+    requires top { top < 2304 }
+    requires inside { Inside 8 top plane.old (site.now.x / 2) (site.now.y / 2) }
+    requires quantised { ChromaQuantised (chroma_qp site.now.qp) levels.now.dc levels.now.ac }
+    ensures shape { SameShape plane.old plane.new }
+    ensures samples { samples_from top plane.new ≡ chroma_over plane.old.width site.now prediction.now levels.now.dc levels.now.ac (samples_from top plane.old) }
+{
+    let qp = chroma_qp(site.qp);
+    let dcs = rescale_chroma_dc(qp, &levels.dc);
+    build_component(plane, top, site, qp, prediction, &dcs, &levels.ac);
+}
+
+/// Codes a chroma component of a macroblock over a prediction of its samples: the levels of `chroma_levels`, and the samples that
+/// `build_chroma` makes of them.
 pub fn code_chroma(
     plane: &mut Plane,
     top: u32,
@@ -199,14 +239,7 @@ pub fn code_chroma(
     ensures ac { result.ac ≡ chroma_ac_levels intra plane.old.width site.now (samples_of source.now) prediction.now }
     ensures samples { samples_from top plane.new ≡ chroma_over plane.old.width site.now prediction.now result.dc result.ac (samples_from top plane.old) }
 {
-    let qp = chroma_qp(site.qp);
-    let spectra = spectra_chroma(source, site, intra, qp, prediction);
-    let means = chroma_dc(&spectra.firsts);
-    let quantised = quantise_chroma_dc(intra, qp, &means);
-    let dcs = rescale_chroma_dc(qp, &quantised.levels);
-    build_component(plane, top, site, qp, prediction, &dcs, &spectra.ac);
-    Chroma {
-        dc: quantised.levels,
-        ac: spectra.ac,
-    }
+    let levels = chroma_levels(source, site, intra, prediction);
+    build_chroma(plane, top, site, prediction, &levels);
+    levels
 }

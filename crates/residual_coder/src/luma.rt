@@ -1,9 +1,10 @@
 // Luma blocks: forward, and back as a decoder does it.
 ghost use Rattle.std.specs.Prelude.{◌≡◌, ◌≤◌, ◌<◌, ◌+◌, ◌*◌};
-ghost use Rattle.residual_coder.specs.Made.{AllMade4, IsQuantised};
+ghost use Rattle.residual_coder.specs.Made.{AllMade4, IsQuantised, IsQuantised8};
 ghost use Rattle.spec_residual.specs.Blocks.{AllWithin, item};
 ghost use Rattle.spec_basics.specs.Bounds.{Within};
 ghost use Rattle.spec_residual.specs.Levels.{greatest, places};
+ghost use Rattle.spec_residual.specs.declared.BlockKind.TheVariants.{Luma4};
 ghost use Rattle.spec_reconstruction.specs.Residuals.{built4, built8, built_with_dc, levels_without_dc, luma_levels4, luma_levels8, spectrum4};
 
 use crate::blocks::{constructed, differences, rescaled4, rescaled8};
@@ -28,6 +29,51 @@ pub struct Coded8 {
     pub samples: [u8; 64],
 }
 
+/// The levels of a 4x4 luma block, in zigzag order; the quantiser rounds as for intra macroblocks where `intra` is set, and else as for
+/// inter macroblocks.
+#[inline(always)]
+pub fn levels4(intra: bool, qp: u8, source: &[u8; 16], prediction: &[u8; 16]) -> [i16; 16]
+    requires { qp ≤ 51 }
+    ensures value { result ≡ luma_levels4 intra qp source.now prediction.now }
+    ensures quantised { IsQuantised Luma4 qp result }
+{
+    let spectrum = forward4(&differences(source, prediction));
+    quantise4(BlockKind::Luma4, intra, qp, &spectrum).levels
+}
+
+/// The levels of an 8x8 luma block, as with `levels4`.
+#[inline(always)]
+pub fn levels8(intra: bool, qp: u8, source: &[u8; 64], prediction: &[u8; 64]) -> [i16; 64]
+    requires { qp ≤ 51 }
+    ensures value { result ≡ luma_levels8 intra qp source.now prediction.now }
+    ensures quantised { IsQuantised8 qp result }
+{
+    let spectrum = forward8(&differences(source, prediction));
+    quantise8(intra, qp, &spectrum).levels
+}
+
+/// The samples of a 4x4 luma block, as a decoder builds them from its levels.
+#[inline(always)]
+pub fn built4(qp: u8, levels: &[i16; 16], prediction: &[u8; 16]) -> [u8; 16]
+    requires in_range { qp ≤ 51 }
+    requires quantised { IsQuantised Luma4 qp levels.now }
+    ensures { result ≡ built4 qp levels.now prediction.now }
+{
+    let coefficients = rescaled4(BlockKind::Luma4, qp, levels);
+    constructed(prediction, &inverse4(&coefficients))
+}
+
+/// The samples of an 8x8 luma block, as a decoder builds them from its levels.
+#[inline(always)]
+pub fn built8(qp: u8, levels: &[i16; 64], prediction: &[u8; 64]) -> [u8; 64]
+    requires in_range { qp ≤ 51 }
+    requires quantised { IsQuantised8 qp levels.now }
+    ensures { result ≡ built8 qp levels.now prediction.now }
+{
+    let coefficients = rescaled8(qp, levels);
+    constructed(prediction, &inverse8(&coefficients))
+}
+
 /// Codes a 4x4 luma block; the quantiser rounds as for intra macroblocks where `intra` is set, and else as for inter macroblocks.
 pub fn code4(intra: bool, qp: u8, source: &[u8; 16], prediction: &[u8; 16]) -> Coded4
     requires { qp ≤ 51 }
@@ -35,15 +81,9 @@ pub fn code4(intra: bool, qp: u8, source: &[u8; 16], prediction: &[u8; 16]) -> C
     ensures small { AllWithin 16 8191 result.levels }
     ensures samples { result.samples ≡ built4 qp result.levels prediction.now }
 {
-    let spectrum = forward4(&differences(source, prediction));
-    let quantised = quantise4(BlockKind::Luma4, intra, qp, &spectrum);
-    let coefficients = rescaled4(BlockKind::Luma4, qp, &quantised.levels);
-    let residual = inverse4(&coefficients);
-    let samples = constructed(prediction, &residual);
-    Coded4 {
-        levels: quantised.levels,
-        samples,
-    }
+    let levels = levels4(intra, qp, source, prediction);
+    let samples = built4(qp, &levels, prediction);
+    Coded4 { levels, samples }
 }
 
 /// Codes an 8x8 luma block, as `code4` does.
@@ -53,15 +93,9 @@ pub fn code8(intra: bool, qp: u8, source: &[u8; 64], prediction: &[u8; 64]) -> C
     ensures small { AllWithin 64 8191 result.levels }
     ensures samples { result.samples ≡ built8 qp result.levels prediction.now }
 {
-    let spectrum = forward8(&differences(source, prediction));
-    let quantised = quantise8(intra, qp, &spectrum);
-    let coefficients = rescaled8(qp, &quantised.levels);
-    let residual = inverse8(&coefficients);
-    let samples = constructed(prediction, &residual);
-    Coded8 {
-        levels: quantised.levels,
-        samples,
-    }
+    let levels = levels8(intra, qp, source, prediction);
+    let samples = built8(qp, &levels, prediction);
+    Coded8 { levels, samples }
 }
 
 /// The coefficients of a 4x4 block's difference from its prediction.

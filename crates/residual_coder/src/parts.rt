@@ -1,9 +1,11 @@
 // Square parts of planes.
-ghost use Rattle.std.specs.Prelude.{◌≡◌, ◌≤◌, ◌<◌, ◌+◌, ◌*◌, length};
+ghost use Rattle.std.specs.Prelude.{◌≡◌, ◌≤◌, ◌<◌, ◌+◌, ◌*◌, ◌/◌, ◌%◌, length};
 ghost use Rattle.picture_planes.specs.Samples.{SameShape, samples_of};
 ghost use Rattle.residual_coder.specs.Stripes.{samples_from};
+ghost use Rattle.spec_reconstruction.specs.Luma.{part16};
 ghost use Rattle.spec_reconstruction.specs.Parts.{block_at, column_part, row_part, with_block};
 
+use crate::places::{block_column, block_row};
 use picture_planes::Plane;
 use plane_blocks::read_block;
 
@@ -80,6 +82,33 @@ pub fn block_of(wide: u32, samples: &[u8], x: u32, y: u32) -> [u8; 16]
         let start = j as usize * 4;
         let end = start + 4;
         block[start..end].copy_from_slice(&samples[from..from + 4]);
+    }
+    block
+}
+
+/// 4x4 block `b` of a prediction of a macroblock's luma samples.
+#[inline(always)]
+pub fn part16(prediction: &[u8; 256], b: u32) -> [u8; 16]
+    requires { b < 16 }
+    ensures { result ≡ part16 prediction.now b }
+{
+    block_of(16, prediction, 4 * block_column(b), 4 * block_row(b))
+}
+
+/// 8x8 block `k` of a prediction of a macroblock's luma samples.
+#[inline(always)]
+pub fn part8(prediction: &[u8; 256], k: u32) -> [u8; 64]
+    requires { k < 4 }
+    ensures { result ≡ block_at 16 (8 * (k % 2)) (8 * (k / 2)) 8 prediction.now }
+{
+    let x = 8 * (k % 2);
+    let y = 8 * (k / 2);
+    let mut block = [0u8; 64];
+    for j in 0..8u32 {
+        let from = ((y + j) * 16 + x) as usize;
+        let start = j as usize * 8;
+        let end = start + 8;
+        block[start..end].copy_from_slice(&prediction[from..from + 8]);
     }
     block
 }

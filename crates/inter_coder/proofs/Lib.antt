@@ -1,0 +1,10 @@
+pub mod Alike
+pub mod Puts
+pub mod Naming
+pub mod Predicting
+pub mod Sampling
+pub mod SampleLaws
+pub mod LevelLaws
+pub mod Around
+pub mod PlanLaws
+pub mod CodedLaws
