@@ -1,7 +1,9 @@
+// Needs and the levels that hold them.
 use super::{Need, fits, least};
 use std::test::Fail;
 
-// Of each level its number, the largest picture in macroblocks that is tried, the longest side, and MaxMBPS, MaxDpbMbs, MaxBR, MaxCPB.
+// Of each level its number, the largest picture in macroblocks that is tried, the longest side, and MaxMBPS, MaxDpbMbs,
+// MaxBR, MaxCPB.
 const ROWS: [(u8, [u32; 2], u32, [u32; 4]); 15] = [
     (10, [11, 9], 28, [1485, 396, 64, 175]),
     (11, [22, 18], 56, [3000, 900, 192, 500]),

@@ -1,5 +1,5 @@
 use Rattle.std.proofs.Common.{sym, ◌∙◌}
-use Rattle.level_limits.proofs.First.{first_here, first_later, first_none}
+use Rattle.spec_levels.proofs.First.{first_here, first_later, first_none}
 use Rattle.level_limits.proofs.first_of.Goals as goal
 
 pub returns-then-keeps : goal.returns-then-keeps

@@ -1,5 +1,5 @@
 use Rattle.std.proofs.Common.{◌≡◌, length}
-use Rattle.level_limits.specs.Levels.{first_level}
+use Rattle.spec_levels.specs.Levels.{first_level}
 use Rattle.level_limits.proofs.first_of.Given as goal
 
 abbrev pub invariant-loop-left : goal.invariant-loop-left

@@ -1,7 +1,7 @@
 use Rattle.std.proofs.Common.{ℕ, Option, subst, sym, ◌∙◌}
 use Rattle.std.specs.Prelude.{IfSome}
-use Rattle.level_limits.specs.Levels.{IsLeast}
-use Rattle.level_limits.proofs.First.{least_is, none_fits}
+use Rattle.spec_levels.specs.Levels.{IsLeast}
+use Rattle.spec_levels.proofs.First.{least_is, none_fits}
 use Rattle.level_limits.proofs.least.Goals as goal
 
 pub returns-clause-least : goal.returns-clause-least

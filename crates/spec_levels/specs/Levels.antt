@@ -2,8 +2,8 @@
 use Rattle.std.specs.Prelude.{ℕ, ◌*◌, ◌≡◌, ◌≤◌, ◌==◌, ◌&&◌, nat_le, Bool, true, List, slice_index, Option}
 use Rattle.std.specs.List.{list_any, find}
 use Rattle.std.specs.Option.{option_map}
-use Rattle.level_limits.specs.declared.TheConstants.{LEVELS}
-use Rattle.level_limits.specs.declared.Need.{Need}
+use Rattle.spec_levels.specs.declared.TheConstants.{LEVELS}
+use Rattle.spec_levels.specs.declared.Need.{Need}
 
 -- PicSizeInMbs
 abbrev pub mbs_of : Need → ℕ

@@ -5,9 +5,9 @@ use Rattle.std.specs.List.{find, list_any}
 use Rattle.std.specs.Option.{option_map}
 use Rattle.std.proofs.lemmas.Bool.Decides.{nat_tests}
 use Rattle.std.proofs.lemmas.Grind.{common_steps}
-use Rattle.level_limits.specs.declared.TheConstants.{LEVELS}
-use Rattle.level_limits.specs.declared.Need.{Need}
-use Rattle.level_limits.specs.Levels.{meets, fits, first_level, least_level, IsLeast}
+use Rattle.spec_levels.specs.declared.TheConstants.{LEVELS}
+use Rattle.spec_levels.specs.declared.Need.{Need}
+use Rattle.spec_levels.specs.Levels.{meets, fits, first_level, least_level, IsLeast}
 
 -- ---- one level after another
 
