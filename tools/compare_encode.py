@@ -5,6 +5,7 @@ import shutil
 import subprocess
 import sys
 
+from common import units
 from unfiltered import unfiltered
 
 folder, reference, program = sys.argv[1:]
@@ -58,7 +59,7 @@ def read(path):
 
 
 NAMES = ("stream", "recon")
-failed = decoded = compared = switched_off = 0
+failed = decoded = compared = switched_off = cropped = 0
 ffmpeg = shutil.which("ffmpeg")
 
 
@@ -72,10 +73,13 @@ def run(command, name, words):
     return ran.returncode, ran.stdout, ran.stderr, read(outs["stream"]), read(outs["recon"])
 
 
-def compare(title, words):
+def compare(title, words, line=None):
+    """Both do the same; where the input is refused, ours prints this line."""
     global failed, compared
     ours = run([program], "ours", words)
     theirs = run([reference, "--stage", "6"], "theirs", words)
+    if line is not None and theirs[0] == 3:
+        theirs = theirs[:2] + (line,) + theirs[3:]
     compared += 1
     if ours != theirs:
         failed += 1
@@ -83,6 +87,49 @@ def compare(title, words):
         differing = [part for part, a, b in zip(parts, ours, theirs) if a != b]
         print(f"differs: {title}: {', '.join(differing)}; {ours[0]} {ours[2]!r}, reference {theirs[0]} {theirs[2]!r}")
     return ours
+
+
+def padded(picture, width, height):
+    """A picture of whole macroblocks: its last column and its last row are repeated."""
+    out, at = b"", 0
+    for wide, high, unit in ((width, height, 16), (width // 2, height // 2, 8), (width // 2, height // 2, 8)):
+        rows = [picture[at + y * wide:at + (y + 1) * wide] for y in range(high)]
+        rows = [row + row[-1:] * (-wide % unit) for row in rows]
+        out += b"".join(rows + rows[-1:] * (-high % unit))
+        at += wide * high
+    return out
+
+
+def cut(picture, width, height):
+    """The part of a padded picture that is shown."""
+    out, at = b"", 0
+    for wide, high, unit in ((width, height, 16), (width // 2, height // 2, 8), (width // 2, height // 2, 8)):
+        across, down = wide + -wide % unit, high + -high % unit
+        out += b"".join(picture[at + y * across:at + y * across + wide] for y in range(high))
+        at += across * down
+    return out
+
+
+def compare_cropped(title, width, height, pictures, words):
+    """The stream is that of the padded film with another sequence parameter set, the one of the film stored; the reconstruction is cropped."""
+    global failed, cropped
+    wide, high = width + -width % 16, height + -height % 16
+    head = b"YUV4MPEG2 W%d H%d F24000:1001 Ip C420\n" % (width, height)
+    write(head + b"".join(b"FRAME\n" + p for p in pictures))
+    ours = run([program], "ours", ENCODE + words)
+    stored = run([reference], "stored", ["store", "--in", source, "--out", "stream"])
+    write(film(wide, high, [padded(p, width, height) for p in pictures]))
+    theirs = run([reference, "--stage", "6"], "theirs", ENCODE + words)
+    shown_pictures = samples(theirs[4], (wide, high))
+    size = wide * high * 3 // 2
+    recon = head + b"".join(b"FRAME\n" + cut(shown_pictures[i:i + size], width, height) for i in range(0, len(shown_pictures), size))
+    sequence = next(payload for kind, payload in units(stored[3]) if kind & 31 == 7)
+    stream = [(kind, sequence if kind & 31 == 7 else payload) for kind, payload in units(theirs[3])]
+    cropped += 1
+    if ours[0] != 0 or theirs[0] != 0 or list(units(ours[3])) != stream or ours[4] != recon:
+        failed += 1
+        print(f"differs: {title}")
+    decode(title, (width, height), ours)
 
 
 def samples(film, head):
@@ -170,6 +217,12 @@ for width, height, kind, words in [
     decode(title, (width, height), ours)
     compare_unfiltered(title, (width, height), ENCODE + words, ours)
 
+# sizes that are padded
+for width, height in [(18, 18), (16, 18), (18, 16), (34, 20), (22, 46), (30, 50), (62, 34), (354, 290)]:
+    for kind, words in [("texture", []), ("noise", ["--qp", "20", "--slices", "2" if height > 16 else "1"]), ("waves", ["--qp", "44", "--t8x8", "off"])]:
+        pictures = [KINDS[kind](width, height, t) for t in range(2)]
+        compare_cropped(f"{kind}, {width}x{height} {' '.join(words)}", width, height, pictures, words)
+
 # words that are refused
 grey = film(16, 16, [KINDS["grey"](16, 16, 0)])
 write(grey)
@@ -184,21 +237,22 @@ for words in [
 
 # films that are refused, and where their faults stand
 noise_film = film(32, 32, [noise(32, 32, 255) for _ in range(3)])
+at_head, at_picture = b"input refused\n", b"input refused at picture %d\n"
 faults = {
-    "cut in its second picture": noise_film[:len(noise_film) - 1700],
-    "cut at its end": noise_film[:-1],
-    "bytes behind it": noise_film + b"F",
-    "no head": b"RIFF",
-    "nothing": b"",
-    "no pictures": b"YUV4MPEG2 W16 H16\n",
-    "an odd size": b"YUV4MPEG2 W17 H16\n",
-    "a size that is no multiple of 16": b"YUV4MPEG2 W18 H16\n",
-    "another word for a picture": noise_film.replace(b"FRAME\n", b"FRAMES", 1),
+    "cut in its second picture": (noise_film[:len(noise_film) - 1700], at_picture % 1),
+    "cut at its end": (noise_film[:-1], at_picture % 2),
+    "bytes behind it": (noise_film + b"F", at_picture % 3),
+    "no head": (b"RIFF", at_head),
+    "nothing": (b"", at_head),
+    "no pictures": (b"YUV4MPEG2 W16 H16\n", b""),
+    "an odd size": (b"YUV4MPEG2 W17 H16\n", at_head),
+    "another word for a picture": (noise_film.replace(b"FRAME\n", b"FRAMES", 1), at_picture % 0),
 }
-for title, data in faults.items():
+# The reference, at the stage whose words these are, doesn't name the picture.
+for title, (data, line) in faults.items():
     write(data)
-    compare(title, ENCODE)
-    compare(title, ENCODE + ["--slices", "3"])
+    compare(title, ENCODE, line)
+    compare(title, ENCODE + ["--slices", "3"], line)
 
 # places that can't be opened, in order
 write(grey)
@@ -212,5 +266,5 @@ for words in [
 ]:
     compare(f"words {words}", words)
 
-print(f"compared {compared} runs with the reference, {switched_off} of them also without the filter, {decoded} streams decoded by ffmpeg, {failed} differ")
+print(f"compared {compared} runs with the reference, {switched_off} of them also without the filter, {cropped} of padded films, {decoded} streams decoded by ffmpeg, {failed} differ")
 sys.exit(1 if failed else 0)

@@ -7,7 +7,8 @@ ghost use Rattle.spec_residual.specs.Levels.{places};
 use crate::table::{DIFFERENCES, LEVELS, RESCALED, RESIDUALS, SUMS8};
 use transform_quant::{BlockKind, forward4, forward8, inverse4, inverse8, quantise, rescale};
 
-// The calls want numbers of a bounded size, as all of these are: no number of the tables, nor one that agrees with them, is changed.
+// The calls want numbers of a bounded size, as all of these are: no number of the tables, nor one that agrees with
+// them, is changed.
 fn bounded(x: i32, bound: u32) -> i32
     requires { bound ≤ 1048576 }
     ensures { Within bound result }

@@ -3,8 +3,8 @@ ghost use Rattle.std.specs.Prelude.{◌≤◌, ◌+◌, ◌*◌};
 
 use enc_tables::{MbRecord, RowPlan, SliceKind};
 use intra_coder::{code_intra4, code_intra8, code_intra16};
+use intra_plans::plan_row;
 use intra_pred::{Avail, Nb4, Nb8, Nb16, NbC, allowed, pred_chroma, pred4, pred8, pred16};
-use mode_choice::plan_row;
 use picture_planes::{Picture, Plane};
 use spec_reconstruction::Site;
 use std::test::Fail;

@@ -1,5 +1,6 @@
-// Random blocks, one for each quantisation parameter from 0 to 51, and what another program computed from them. Blocks are written
-// row by row; even parameters are those of intra macroblocks for the 4x4 blocks, and of inter macroblocks for the 8x8 blocks.
+// Random blocks, one for each quantisation parameter from 0 to 51, and what another program computed from them. Blocks
+// are written row by row; even parameters are those of intra macroblocks for the 4x4 blocks, and of inter macroblocks
+// for the 8x8 blocks.
 
 // The differences of the 4x4 blocks.
 pub const DIFFERENCES: [[i16; 16]; 52] = [
@@ -560,9 +561,9 @@ pub const RESIDUALS: [[i32; 16]; 52] = [
     ],
 ];
 
-// The 8x8 block of a parameter has the differences of its 4x4 block and of the three after it, which go round at the end.
-// Here are the sum of its levels, each times its place counted from 1, how many levels aren't 0, and the same sums of the rescaled
-// coefficients and of their inverse transform.
+// The 8x8 block of a parameter has the differences of its 4x4 block and of the three after it, which go round at the
+// end. Here are the sum of its levels, each times its place counted from 1, how many levels aren't 0, and the same sums
+// of the rescaled coefficients and of their inverse transform.
 pub const SUMS8: [[i32; 4]; 52] = [
     [-19136, 63, -104619, -6541],
     [-16700, 63, -67217, 583],

@@ -1,5 +1,5 @@
-// `bins`: codes bins by the arithmetic coder. Each line has one bin, as `read_line` reads it. What is printed is a line for each code that
-// a terminate 1 ends; a line behind a terminate 1 begins a new code.
+// `bins`: codes bins by the arithmetic coder. Each line has one bin, as `read_line` reads it. What is printed is a line
+// for each code that a terminate 1 ends; a line behind a terminate 1 begins a new code.
 ghost use Rattle.std.specs.Prelude.{◌≡◌, true, false, ◌↔◌, IsErr, OnOk, ℕ, ◌+◌, ◌/◌, ◌%◌, ◌≤◌, IsNone, IfSome, IfOk, Bool};
 ghost use Rattle.spec_cabac.specs.Bins.{is_end};
 ghost use Rattle.spec_cabac.specs.Code.{step};

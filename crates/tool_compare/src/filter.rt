@@ -1,7 +1,8 @@
-// `filter`: filters one picture by the deblocking filter (ITU-T H.264, clause 8.7). The numbers of all lines are: the luma width and height;
-// four picture numbers of list 0 and four of list 1; the picture; and for each macroblock 43 numbers: its kind (the place in `MbKind`),
-// whether it has 8x8 transforms, its quantisation parameter, for each 8x8 block two reference indices and two vectors, and for each 4x4
-// block whether it has a level. What is printed are the filtered rows.
+// `filter`: filters one picture by the deblocking filter (ITU-T H.264, clause 8.7). The numbers of all lines are: the
+// luma width and height; four picture numbers of list 0 and four of list 1; the picture; and for each macroblock 43
+// numbers: its kind (the place in `MbKind`), whether it has 8x8 transforms, its quantisation parameter, for each 8x8
+// block two reference indices and two vectors, and for each 4x4 block whether it has a level. What is printed are the
+// filtered rows.
 ghost use Rattle.std.specs.Prelude.{◌≡◌, ◌≤◌, IsTrue, OnOk, length, IfOk, IfSome};
 ghost use Rattle.std.specs.List.{All};
 ghost use Rattle.picture_planes.specs.Pictures.{planes_of};
@@ -9,7 +10,7 @@ ghost use Rattle.spec_filter.specs.Pictures.{picture_filtered};
 
 use crate::pictures::read_picture;
 use deblock::deblock_picture;
-use enc_tables::{MbRecord, Motion, Vector};
+use enc_tables::{MOST_HEIGHT, MbRecord, Motion, Vector};
 use picture_planes::{Picture, Plane};
 use std::alloc::Global;
 use tool_input::{Fault, Numbers, all_numbers, as_short};
@@ -143,7 +144,7 @@ fn print_plane(rt: &HostRuntime, plane: &Plane) -> Result<(), Fault> {
 fn side(number: i32) -> Result<u32, Fault>
     ensures { IfOk result (λ n. (16 ≤ n) × (n ≤ 2304)) }
 {
-    if number < 16 || number > 2304 || number % 16 != 0 {
+    if number < 16 || number > MOST_HEIGHT as i32 || number % 16 != 0 {
         return Err(Fault::Input(WANTED));
     }
     Ok(number as u32)

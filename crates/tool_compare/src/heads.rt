@@ -1,13 +1,13 @@
-// `heads`: what stands before and behind the slices of a stream, and the numbers that it says. Each line asks for one thing, by its name and
-// its numbers:
-//   `sps WIDTH HEIGHT LEVEL REFS NUM DEN RATE CPB REORDER`, `pps T8X8`: the unit of a parameter set, whole;
-//   `slice KIND FIRST_MB FRAME_NUM IDR_ID POC REFS0 REFS1 MOVED QP`: a slice's header with the ones to the byte. KIND is 0, 1 or 2 for I, P
-//   and B, and MOVED is abs_diff_pic_num of the picture that is moved to the front of list 0, or 0;
-//   `sei DELAY REMOVAL OUTPUT`: the unit of messages, with a buffering period where DELAY isn't 0; `filler BYTES`: a filler unit;
-//   `level WIDTH_MBS HEIGHT_MBS NUM DEN RATE CPB REFS`: the least level, or 0, and all levels that fit;
-//   `plan PICTURES IDR BFRAMES`: a line for each picture in coded order, with its place in display order, kind, frame_num and POC;
-//   `ledger RATE CPB DELAY NUM DEN QP` and for each picture its kind and bits: a line for each with the bits that are there, the first
-//   quantisation parameter, the delay of a buffering period that begins with it, and the bytes of filler.
+// `heads`: what stands before and behind the slices of a stream, and the numbers that it says. Each line asks for one
+// thing, by its name and its numbers: `sps WIDTH HEIGHT LEVEL REFS NUM DEN RATE CPB REORDER`, `pps T8X8`: the unit of a
+// parameter set, whole; `slice KIND FIRST_MB FRAME_NUM IDR_ID POC REFS0 REFS1 MOVED QP`: a slice's header with the ones
+// to the byte. KIND is 0, 1 or 2 for I, P and B, and MOVED is abs_diff_pic_num of the picture that is moved to the
+// front of list 0, or 0; `sei DELAY REMOVAL OUTPUT`: the unit of messages, with a buffering period where DELAY isn't 0;
+// `filler BYTES`: a filler unit; `level WIDTH_MBS HEIGHT_MBS NUM DEN RATE CPB REFS`: the least level, or 0, and all
+// levels that fit; `plan PICTURES IDR BFRAMES`: a line for each picture in coded order, with its place in display
+// order, kind, frame_num and POC; `ledger RATE CPB DELAY NUM DEN QP` and for each picture its kind and bits: a line for
+// each with the bits that are there, the first quantisation parameter, the delay of a buffering period that begins with
+// it, and the bytes of filler.
 ghost use Rattle.std.specs.Prelude.{◌≡◌, ◌<◌, ◌≤◌, ◌+◌, ℕ, ◌%◌, ◌==◌, IfSome, IfOk, IsTrue, true, false};
 ghost use Rattle.enc_tables.specs.declared.SliceKind.TheVariants.{I};
 ghost use Rattle.spec_headers.specs.Allowed.{IsSeqHead, IsSliceHead, IsTiming, HasLists};
@@ -19,7 +19,7 @@ ghost use Rattle.buffer_control.specs.Seen.{spent_of};
 use crate::code::print_code;
 use bit_strings::BitBuf;
 use buffer_control::Ledger;
-use enc_tables::{PlanStep, SliceKind};
+use enc_tables::{MOST_HEIGHT, MOST_WIDTH, PlanStep, SliceKind};
 use gop_plan::{group, wanted};
 use level_limits::{LEVELS, Need, fits, least};
 use nal_writer::{filler, unit};
@@ -75,6 +75,7 @@ fn print_unit(
     }
     let mut out = BitBuf::with_room(rt.alloc(), 2 * ROOM)?;
     unit(&mut out, header.1, header.0, bytes, long_start)?;
+    // The buffer that comes back isn't needed again.
     let _ = print_code(rt, out)?;
     Ok(())
 }
@@ -108,10 +109,10 @@ fn sequence_head(numbers: &[u32]) -> Option<SeqHead>
     };
     let (width, height, level, refs) = (*width, *height, *level, *refs);
     let timing = timing_of(timing)?;
-    if width < 16 || width > 4096 || width % 2 != 0 {
+    if width < 16 || width > MOST_WIDTH || width % 2 != 0 {
         return None;
     }
-    if height < 16 || height > 2304 || height % 2 != 0 {
+    if height < 16 || height > MOST_HEIGHT || height % 2 != 0 {
         return None;
     }
     if level > 255 || refs == 0 || refs > 4 {
@@ -223,6 +224,7 @@ fn print_slice_head(rt: &HostRuntime, numbers: &[u32]) -> Result<(), Fault> {
     };
     let mut out = BitBuf::with_room(rt.alloc(), ROOM)?;
     write_slice_head(&mut out, &head)?;
+    // The buffer that comes back isn't needed again.
     let _ = print_code(rt, out)?;
     Ok(())
 }
@@ -245,6 +247,7 @@ fn print_filler(rt: &HostRuntime, bytes: u32) -> Result<(), Fault> {
     }
     let mut out = BitBuf::with_room(rt.alloc(), bytes)?;
     filler(&mut out, bytes)?;
+    // The buffer that comes back isn't needed again.
     let _ = print_code(rt, out)?;
     Ok(())
 }

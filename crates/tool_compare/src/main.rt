@@ -1,7 +1,7 @@
-//! Parts of the encoder, each by itself, for comparisons with other encoders. The first word says which part is asked, and further words are
-//! its settings; standard input has lines of text, most of them decimal numbers with a blank between two of them, and each answer is a
-//! line of standard output. Without words the input has questions to several parts, one behind another: each begins with a line `=`, the
-//! name of the part and its settings.
+//! Parts of the encoder, each by itself, for comparisons with other encoders. The first word says which part is asked,
+//! and further words are its settings; standard input has lines of text, most of them decimal numbers with a blank
+//! between two of them, and each answer is a line of standard output. Without words the input has questions to several
+//! parts, one behind another: each begins with a line `=`, the name of the part and its settings.
 #![tactic(auto)]
 
 ghost use Rattle.std.specs.Prelude.{◌≤◌, length};

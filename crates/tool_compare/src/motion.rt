@@ -1,9 +1,9 @@
 // `motion`: derives motion from the neighbours that each line gives.
 //
-// A line has 54 numbers: what is wanted (0: a partition's predicted vector, 1: the motion of P_Skip, 2: that of spatial direct mode); of a
-// partition its shape, part, list and reference, otherwise four zeros; then seven blocks of seven numbers, A, B, C and the four co-located
-// ones: 1 where the block is there and 0 where it isn't, and for both lists the reference and the vector. What is printed is the vector, or
-// the motion of one block or of four.
+// A line has 54 numbers: what is wanted (0: a partition's predicted vector, 1: the motion of P_Skip, 2: that of spatial
+// direct mode); of a partition its shape, part, list and reference, otherwise four zeros; then seven blocks of seven
+// numbers, A, B, C and the four co-located ones: 1 where the block is there and 0 where it isn't, and for both lists
+// the reference and the vector. What is printed is the vector, or the motion of one block or of four.
 ghost use Rattle.std.specs.Prelude.{◌≤◌, ◌<◌, ◌+◌, length, IfSome};
 
 use enc_tables::{Motion, Vector};

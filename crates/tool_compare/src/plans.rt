@@ -1,11 +1,12 @@
-// `plans`: plans pictures and prints the plans. The settings are the width and the height, how many pictures there are, 1 or 0 for the 8x8
-// transform, the quantisation parameter, and the first row of macroblocks of each slice. The numbers of all lines are the pictures.
+// `plans`: plans pictures and prints the plans. The settings are the width and the height, how many pictures there are,
+// 1 or 0 for the 8x8 transform, the quantisation parameter, and the first row of macroblocks of each slice. The numbers
+// of all lines are the pictures.
 ghost use Rattle.std.specs.Prelude.{◌≤◌};
 ghost use Rattle.enc_tables.specs.Choice.{SmallCosts};
 
 use crate::pictures::read_picture;
-use enc_tables::{MbKind, MbPlan, RowPlan, SliceKind, choose};
-use mode_choice::plan_row;
+use enc_tables::{MOST_HEIGHT, MOST_WIDTH, MbKind, MbPlan, RowPlan, SliceKind, choose};
+use intra_plans::plan_row;
 use picture_planes::Picture;
 use tool_input::{Fault, Numbers, all_numbers};
 
@@ -18,8 +19,8 @@ struct Way {
     qp: u8,
 }
 
-// The first row of the slice that has this row: the last of them that isn't below it.
-fn slice_start(first_rows: &[u32], row: u32) -> u32
+/// The first row of the slice that has this row: the last of them that isn't below it.
+pub fn slice_start(first_rows: &[u32], row: u32) -> u32
     ensures { result ≤ row }
 {
     let mut start = 0;
@@ -95,7 +96,7 @@ pub fn plan_pictures(rt: &HostRuntime, settings: &[u32], lines: &[String]) -> Re
     let [width, height, count, t8x8, qp, first_rows @ ..] = settings else {
         return Err(Fault::Words(WORDS));
     };
-    let sizes = (1..=4096).contains(width) && (1..=2304).contains(height);
+    let sizes = (1..=MOST_WIDTH).contains(width) && (1..=MOST_HEIGHT).contains(height);
     if !sizes || *qp > 51 {
         return Err(Fault::Words(WORDS));
     }

@@ -1,8 +1,8 @@
-// `search`: searches the nine partitions of each macroblock of pictures in one reference picture each, and prints what is found. The
-// settings are width, height, the range of the search, and how many pairs of planes there are. The numbers of all lines are the pairs one
-// after another, each the luma samples of a picture and of its reference, row by row. What is printed is a line for each partition: the
-// parts of the best whole-sample vector, its cost, how many vectors were compared, the parts of the refined vector in quarter samples, and
-// its cost.
+// `search`: searches the nine partitions of each macroblock of pictures in one reference picture each, and prints what
+// is found. The settings are width, height, the range of the search, and how many pairs of planes there are. The
+// numbers of all lines are the pairs one after another, each the luma samples of a picture and of its reference, row by
+// row. What is printed is a line for each partition: the parts of the best whole-sample vector, its cost, how many
+// vectors were compared, the parts of the refined vector in quarter samples, and its cost.
 ghost use Rattle.std.specs.Prelude.{◌≡◌, ◌≤◌, ◌<◌, ◌+◌, ◌*◌, length, IfOk, IsTrue};
 ghost use Rattle.spec_search.specs.Window.{IsWindowBest};
 ghost use Rattle.spec_search.specs.Refine.{IsRefined};
@@ -13,7 +13,7 @@ ghost use Rattle.tool_compare.specs.Searches.{IsReady};
 
 use crate::pictures::read_samples;
 use block_sums::SumTable;
-use enc_tables::Vector;
+use enc_tables::{MOST_HEIGHT, MOST_WIDTH, Vector};
 use motion_search::{Best, Block, refine, search_alone};
 use picture_planes::Plane;
 use std::alloc::{AllocError, Global};
@@ -21,8 +21,8 @@ use tool_input::{Fault, Numbers, all_numbers};
 
 const WORDS: &str = "search WIDTH HEIGHT RANGE PAIRS";
 
-// The partitions of the macroblock at this column and row of samples in their order: the whole, its upper and its lower half,
-// its left and its right half, and its quarters row by row.
+// The partitions of the macroblock at this column and row of samples in their order: the whole, its upper and its lower
+// half, its left and its right half, and its quarters row by row.
 fn partition(left: u32, top: u32, part: u32) -> Block
     requires left { left ≤ 4096 }
     requires top { top ≤ 2304 }
@@ -127,10 +127,10 @@ fn are_allowed(width: u32, height: u32, range: u32) -> bool
     ensures height { IsTrue result → (1 ≤ height) × (height ≤ 2304) }
     ensures range { IsTrue result → (1 ≤ range) × (range ≤ 32) }
 {
-    if width == 0 || width > 4096 {
+    if width == 0 || width > MOST_WIDTH {
         return false;
     }
-    if height == 0 || height > 2304 {
+    if height == 0 || height > MOST_HEIGHT {
         return false;
     }
     if range == 0 {

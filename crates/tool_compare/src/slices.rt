@@ -1,6 +1,6 @@
-// `slices`: writes the data of slices by the macroblock layer. A line of eight numbers begins each slice, as `head_of` reads them, and behind
-// it stands a line of 461 numbers for each of its macroblocks, as `record_of` reads them. What is printed is a line for each slice: its
-// data's bytes in hexadecimal, the last one filled up with zeros.
+// `slices`: writes the data of slices by the macroblock layer. A line of eight numbers begins each slice, as `head_of`
+// reads them, and behind it stands a line of 461 numbers for each of its macroblocks, as `record_of` reads them. What
+// is printed is a line for each slice: its data's bytes in hexadecimal, the last one filled up with zeros.
 ghost use Rattle.std.specs.Prelude.{IfOk};
 ghost use Rattle.bin_writer.specs.Coding.{seen, IsReady};
 
@@ -21,8 +21,9 @@ const RECORD: &str = "slices whose macroblocks can be where they are";
 
 const WHOLE: &str = "whole: the last slice lacks macroblocks";
 
-// What a slice begins with: the picture's width in macroblocks, the number of its first macroblock, how many it has, its QP, whether
-// 8x8 transforms may be used, 0 or 1, its type, 0 for I, 1 for P and 2 for B, and the lengths of list 0 and list 1.
+// What a slice begins with: the picture's width in macroblocks, the number of its first macroblock, how many it has,
+// its QP, whether 8x8 transforms may be used, 0 or 1, its type, 0 for I, 1 for P and 2 for B, and the lengths of list 0
+// and list 1.
 #[derive(Clone, Copy)]
 struct Head {
     width: u16,

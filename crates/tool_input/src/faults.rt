@@ -50,6 +50,7 @@ pub fn ended(rt: &HostRuntime, end: Result<(), Fault>) -> ExitCode {
     match end {
         Ok(()) => ExitCode::from(0),
         Err(fault) => {
+            // The status tells of the fault where standard error takes no line.
             let _ = eprintln!(rt; "{fault}");
             ExitCode::from(2)
         }

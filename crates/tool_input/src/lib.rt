@@ -1,4 +1,5 @@
-//! What the small programs beside the encoder have in common: words and lines of numbers as their input, and why they stop.
+//! What the small programs beside the encoder have in common: words and lines of numbers as their input, and why they
+//! stop.
 #![tactic(auto)]
 
 mod faults;

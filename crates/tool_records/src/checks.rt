@@ -188,7 +188,8 @@ fn pattern_fits(mb: &MbRecord) -> bool
     mb.luma_cbp == 0 && mb.chroma_cbp == 0
 }
 
-/// Whether this is known to be a macroblock that the syntax can give where this is around it, with the QP of the macroblock before.
+/// Whether this is known to be a macroblock that the syntax can give where this is around it, with the QP of the
+/// macroblock before.
 pub fn is_record(mb: &MbRecord, around: &Around) -> bool
     ensures { IsTrue result → IsRecord (near_of around.now mb.now) mb.now }
 {

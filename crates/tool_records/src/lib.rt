@@ -1,5 +1,5 @@
-//! Macroblocks as lines of numbers, and whether the syntax of ITU-T H.264 can give them where they are: what a program that takes macroblocks
-//! from outside asks before it writes them.
+//! Macroblocks as lines of numbers, and whether the syntax of ITU-T H.264 can give them where they are: what a program
+//! that takes macroblocks from outside asks before it writes them.
 #![tactic(auto)]
 
 mod checks;

@@ -131,8 +131,9 @@ fn differences_of(numbers: &[i32]) -> Option<[Vector; 8]>
     Some(differences)
 }
 
-/// The macroblock of 461 numbers: its type, the place in `MbKind`; whether it has 8x8 transforms, 0 or 1; the chroma mode; the luma and
-/// chroma patterns; 16 modes; the levels, the motion and the written differences as the fields of `MbRecord` have them.
+/// The macroblock of 461 numbers: its type, the place in `MbKind`; whether it has 8x8 transforms, 0 or 1; the chroma
+/// mode; the luma and chroma patterns; 16 modes; the levels, the motion and the written differences as the fields of
+/// `MbRecord` have them.
 pub fn record_of(numbers: &[i32], qp: u8) -> Option<MbRecord>
     ensures { IfSome result (λ mb. mb.qp ≡ qp) }
 {

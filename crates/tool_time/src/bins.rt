@@ -1,6 +1,6 @@
-// `bins`: codes recorded bins by the arithmetic coder. Standard input has one bin a line, as `read_line` reads it. Each code begins from the
-// states of a P slice at the quantisation parameter 26 and ends with a terminate 1. What is printed is the number of bins of a code, its
-// bytes, and a sum of the bytes of all codes.
+// `bins`: codes recorded bins by the arithmetic coder. Standard input has one bin a line, as `read_line` reads it. Each
+// code begins from the states of a P slice at the quantisation parameter 26 and ends with a terminate 1. What is
+// printed is the number of bins of a code, its bytes, and a sum of the bytes of all codes.
 ghost use Rattle.std.specs.Prelude.{◌≡◌, ℕ, ◌+◌, ◌/◌, ◌%◌, ◌≤◌, false, length, IsNone, IfSome, IfOk, Bool};
 ghost use Rattle.std.specs.List.{All};
 ghost use Rattle.spec_contexts.specs.States.{AllKnown};

@@ -1,4 +1,5 @@
-// `blocks`: takes random 4x4 or 8x8 blocks through the transforms and the quantiser and back. What is printed is a sum of all that comes back.
+// `blocks`: takes random 4x4 or 8x8 blocks through the transforms and the quantiser and back. What is printed is a sum
+// of all that comes back.
 ghost use Rattle.std.specs.Prelude.{◌≡◌, ◌≤◌, ◌<◌, IfOk};
 ghost use Rattle.std.specs.List.{All};
 ghost use Rattle.spec_residual.specs.Blocks.{AllWithin};

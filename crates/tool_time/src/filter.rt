@@ -1,5 +1,5 @@
-// `filter`: filters a picture of 640x352 samples, each time as it was at first; by the word `off` everything but the filter is done. What is
-// printed are sums over the filtered samples.
+// `filter`: filters a picture of 640x352 samples, each time as it was at first; by the word `off` everything but the
+// filter is done. What is printed are sums over the filtered samples.
 ghost use Rattle.std.specs.Prelude.{◌≡◌, ◌≤◌, ◌*◌, IsTrue, length};
 ghost use Rattle.std.specs.List.{All};
 

@@ -1,12 +1,13 @@
-//! Kernels of the encoder, run many times so that their speed can be measured. The first word says which kernel is run, and further words how
-//! and how often. A line of standard output has a sum over what was made, so that other programs can be seen to make the same. By the word
-//! `all` each kernel runs a little.
+//! Kernels of the encoder, run many times so that their speed can be measured. The first word says which kernel is run,
+//! and further words how and how often. A line of standard output has a sum over what was made, so that other programs
+//! can be seen to make the same. By the word `all` each kernel runs a little.
 #![tactic(auto)]
 
 mod bins;
 mod blocks;
 mod filter;
 mod motion;
+mod nine;
 mod random;
 mod search;
 
@@ -14,7 +15,7 @@ use std::process::ExitCode;
 use tool_input::{Fault, borrowed, ended, number_words, own_words};
 
 const WORDS: &str =
-    "bins TIMES, blocks 4x4|8x8 TIMES, motion copy|b|h|j TIMES, filter TIMES [off], search WIDTH HEIGHT RANGE TIMES, or all";
+    "bins TIMES, blocks 4x4|8x8 TIMES, motion copy|b|h|j TIMES, filter TIMES [off], search WIDTH HEIGHT RANGE TIMES, nine WIDTH HEIGHT RANGE TIMES 0|1, or all";
 
 fn number(word: &str) -> Result<u32, Fault> {
     word.parse::<u32>().map_err(|_| Fault::Words(WORDS))
@@ -29,7 +30,8 @@ fn run_all(rt: &HostRuntime) -> Result<(), Fault> {
     motion::predict(rt, "h", 1)?;
     motion::predict(rt, "j", 1)?;
     filter::filter(rt, 1, true)?;
-    search::search_made(rt)
+    search::search_made(rt)?;
+    nine::search_made(rt)
 }
 
 fn run_kernel(rt: &HostRuntime, words: &[&str]) -> Result<(), Fault> {
@@ -42,6 +44,10 @@ fn run_kernel(rt: &HostRuntime, words: &[&str]) -> Result<(), Fault> {
         ["filter", times] => filter::filter(rt, number(times)?, true),
         ["filter", times, "off"] => filter::filter(rt, number(times)?, false),
         ["search", settings @ ..] => search::search(
+            rt,
+            number_words(rt.alloc(), settings, WORDS)?.as_slice(),
+        ),
+        ["nine", settings @ ..] => nine::search(
             rt,
             number_words(rt.alloc(), settings, WORDS)?.as_slice(),
         ),

@@ -1,5 +1,5 @@
-// `motion`: predicts blocks of 16x16 luma samples at a position: `copy`, or `b`, `h` or `j` as the standard names half samples (ITU-T H.264,
-// clause 8.4.2.2.1). What is printed is a sum of some of the samples.
+// `motion`: predicts blocks of 16x16 luma samples at a position: `copy`, or `b`, `h` or `j` as the standard names half
+// samples (ITU-T H.264, clause 8.4.2.2.1). What is printed is a sum of some of the samples.
 ghost use Rattle.std.specs.Prelude.{◌≡◌, IfOk};
 ghost use Rattle.picture_planes.specs.Margins.{IsFilled};
 ghost use Rattle.subpel_filter.specs.Predicted.{IsShort};

@@ -1,6 +1,6 @@
-// `search`: searches the window of each macroblock of a picture. The settings are width, height, the range of the search, and how often.
-// Standard input has the luma samples of the picture and of its reference as bytes, row by row. What is printed is a sum over the best
-// vectors and their costs, and how many vectors were compared.
+// `search`: searches the window of each macroblock of a picture. The settings are width, height, the range of the
+// search, and how often. Standard input has the luma samples of the picture and of its reference as bytes, row by row.
+// What is printed is a sum over the best vectors and their costs, and how many vectors were compared.
 ghost use Rattle.std.specs.Prelude.{◌≡◌, ◌≤◌, ◌*◌, length, IsTrue};
 ghost use Rattle.block_sums.specs.Tables.{IsTableOf};
 ghost use Rattle.picture_planes.specs.Margins.{IsFilled};
@@ -8,6 +8,7 @@ ghost use Rattle.motion_search.specs.Planes.{SameSize};
 
 use crate::random::Random;
 use block_sums::SumTable;
+use enc_tables::{MOST_HEIGHT, MOST_WIDTH};
 use motion_search::{Best, Block, search_alone};
 use picture_planes::Plane;
 use std::alloc::{AllocError, Global};
@@ -16,15 +17,15 @@ use tool_input::Fault;
 
 const WORDS: &str = "search WIDTH HEIGHT RANGE TIMES";
 
-// What many searches found: a sum over vectors and costs, and how many vectors were compared.
+/// What many searches found: a sum over vectors and costs, and how many vectors were compared.
 #[derive(Clone, Copy, Drop)]
-struct Total {
-    sum: u32,
-    compared: u64,
+pub struct Total {
+    pub sum: u32,
+    pub compared: u64,
 }
 
 impl Total {
-    fn add(&mut self, number: u32) {
+    pub fn add(&mut self, number: u32) {
         self.sum = self.sum.wrapping_mul(31).wrapping_add(number);
     }
 
@@ -102,15 +103,16 @@ fn repeat(
     Ok(total)
 }
 
-fn are_allowed(width: u32, height: u32, range: u32) -> bool
+/// Whether planes of this size can be searched by this range.
+pub fn are_allowed(width: u32, height: u32, range: u32) -> bool
     ensures width { IsTrue result → (1 ≤ width) × (width ≤ 4096) }
     ensures height { IsTrue result → (1 ≤ height) × (height ≤ 2304) }
     ensures range { IsTrue result → (1 ≤ range) × (range ≤ 32) }
 {
-    if width == 0 || width > 4096 {
+    if width == 0 || width > MOST_WIDTH {
         return false;
     }
-    if height == 0 || height > 2304 {
+    if height == 0 || height > MOST_HEIGHT {
         return false;
     }
     if range == 0 {
@@ -119,14 +121,23 @@ fn are_allowed(width: u32, height: u32, range: u32) -> bool
     range <= 32
 }
 
-// Reads the samples of a plane.
-fn read_samples<R: Read>(alloc: Global, reader: &mut R, count: usize) -> Result<Vec<u8>, Fault> {
+/// Reads the samples of a plane.
+pub fn read_samples<R: Read>(
+    alloc: Global,
+    reader: &mut R,
+    count: usize,
+) -> Result<Vec<u8>, Fault> {
     let mut samples = vec![in alloc; 0u8; count]?;
     reader.read_exact(samples.as_mut_slice())?;
     Ok(samples)
 }
 
-fn random_samples(alloc: Global, random: &mut Random, count: usize) -> Result<Vec<u8>, AllocError> {
+/// So many random samples.
+pub fn random_samples(
+    alloc: Global,
+    random: &mut Random,
+    count: usize,
+) -> Result<Vec<u8>, AllocError> {
     let mut samples = Vec::new(alloc);
     for _ in 0..count {
         samples.push(random.sample())?;
