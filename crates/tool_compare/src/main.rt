@@ -13,6 +13,7 @@ mod heads;
 mod motion;
 mod pictures;
 mod plans;
+mod row_plans;
 mod search;
 mod slices;
 
@@ -20,7 +21,7 @@ use std::process::ExitCode;
 use tool_input::{Fault, borrowed, ended, number_words, own_words, read_lines};
 
 const WORDS: &str =
-    "bins, slices, motion, filter, heads, plans WIDTH HEIGHT PICTURES T8X8 QP FIRST_ROW.., or search WIDTH HEIGHT RANGE PAIRS";
+    "bins, slices, motion, filter, heads, plans WIDTH HEIGHT PICTURES T8X8 QP FIRST_ROW.., row_plans WIDTH HEIGHT RANGE T8X8 B REFERENCES FIRST_ROW.., or search WIDTH HEIGHT RANGE PAIRS";
 
 const PARTS: &str = "parts, each of which begins with a line `= NAME SETTINGS..`";
 
@@ -38,6 +39,7 @@ fn ask(rt: &HostRuntime, words: &[&str], lines: &[String]) -> Result<(), Fault> 
         ("filter", []) => filter::filter_picture(rt, lines),
         ("heads", []) => heads::answer_lines(rt, lines),
         ("plans", settings) => plans::plan_pictures(rt, settings, lines),
+        ("row_plans", settings) => row_plans::plan_rows(rt, settings, lines),
         ("search", settings) => search::search_pictures(rt, settings, lines),
         _ => Err(Fault::Words(WORDS)),
     }
