@@ -107,6 +107,24 @@ scanned_more bytes i zeros b next h e t n s =
     small true = omega (arith, s.few)
     small false = omega arith
 
+-- a byte above 3 ends each run of zeros
+pub scanned_past : (bytes : List ℕ) (i zeros b : ℕ) → i < length bytes → b ≡ get_or bytes i 0 → 3 < b → Scanned bytes i zeros → Scanned bytes (i + 1) 0
+scanned_past bytes i zeros b h e large s = scanned_more bytes i zeros b 0 h e (kept (nat_le 2 zeros)) (ended (b == 0) not_zero) s
+  where
+    above : nat_le b 3 ≡ false
+    above = grind (arith, nat_tests)
+
+    not_zero : (b == 0) ≡ false
+    not_zero = grind (arith, nat_tests)
+
+    kept : (x : Bool) → (x && nat_le b 3) ≡ false
+    kept true = above
+    kept false = refl
+
+    ended : (x : Bool) → x ≡ false → 0 ≡ (if x then zeros + 1 else 0)
+    ended true f = absurd cc
+    ended false f = refl
+
 pub run_here : (bytes : List ℕ) (i zeros b : ℕ) → i < length bytes → b ≡ get_or bytes i 0 → (nat_le 2 zeros && nat_le b 3) ≡ true → Scanned bytes i zeros → IsRun bytes i
 run_here bytes i zeros b h e t s =
     let two : 2 ≤ zeros = first (nat_le 2 zeros) (nat_le b 3) refl t in

@@ -111,6 +111,11 @@ fn clean_run(bytes: &[u8]) -> usize
     let mut zeros = 0usize;
     for i in 0..bytes.len() {
         let byte = bytes[i];
+        // Most bytes: no run of zeros goes on here.
+        if byte > 3 {
+            zeros = 0;
+            continue;
+        }
         if needs_escape(zeros, byte) {
             return i;
         }
