@@ -5,11 +5,13 @@ ghost use Rattle.enc_tables.specs.Plans.{blank_plan};
 use crate::records::{MbPlan, Motion, PartPlan};
 use std::alloc::{AllocError as OutOfMemory, Global};
 
-/// The plans of a row of macroblocks.
+/// The plans of a row of macroblocks, and how many vectors were compared for them.
 #[derive(Drop)]
 pub struct RowPlan {
     /// The row, from 0 at the top.
     pub row: u32,
+    /// How many vectors were compared.
+    pub compared: u64,
     /// The macroblocks' plans, from left to right.
     pub mbs: Vec<MbPlan>,
 }
@@ -18,10 +20,15 @@ impl RowPlan {
     /// A blank row of `width_mbs` macroblocks. The answer `Err` means that memory was wanting.
     pub fn new(alloc: Global, width_mbs: u32) -> Result<RowPlan, OutOfMemory>
         ensures row { IfOk result (λ p. p.row ≡ 0) }
+        ensures compared { IfOk result (λ p. p.compared ≡ 0) }
         ensures blank { IfOk result (λ p. p.mbs.items ≡ replicate width_mbs blank_plan) }
     {
         let mbs = vec![in alloc; blank(); width_mbs as usize]?;
-        Ok(RowPlan { row: 0, mbs })
+        Ok(RowPlan {
+            row: 0,
+            compared: 0,
+            mbs,
+        })
     }
 }
 

@@ -5,8 +5,8 @@ ghost use Rattle.ref_lists.specs.Stored.{width_of, height_of};
 ghost use Rattle.spec_partitions.specs.InRange.{HasEntries};
 
 use block_sums::SumTable;
-use enc_tables::{PartPlan, SliceKind};
-use mode_choice::{RowPlan, plan_row_alone};
+use enc_tables::{PartPlan, RowPlan, SliceKind};
+use mode_choice::plan_row_alone;
 use picture_planes::Picture;
 use ref_lists::{Lists, RefStore, Reference};
 use std::alloc::{AllocError as OutOfMemory, Global};

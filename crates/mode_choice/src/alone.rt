@@ -10,10 +10,9 @@ ghost use Rattle.spec_inter_plans.specs.InterPlans.{row_plans, row_compared};
 ghost use Rattle.spec_partitions.specs.InRange.{HasEntries};
 ghost use Rattle.mode_choice.specs.Given.{search_of, used};
 
-use crate::row_plan::RowPlan;
 use crate::rows::plan_row;
 use block_sums::SumTable;
-use enc_tables::SliceKind;
+use enc_tables::{RowPlan, SliceKind};
 use motion_search::{Steps, begun};
 use picture_planes::Picture;
 use ref_lists::Lists;

@@ -8,11 +8,9 @@ mod entries;
 mod macroblock;
 mod partitions;
 mod references;
-mod row_plan;
 mod rows;
 mod samples;
 mod searches;
 
 pub use alone::plan_row_alone;
-pub use row_plan::RowPlan;
 pub use rows::plan_row;

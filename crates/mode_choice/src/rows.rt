@@ -12,9 +12,8 @@ ghost use Rattle.mode_choice.specs.Given.{search_of, used};
 
 use crate::macroblock::plan_inter;
 use crate::references::lemma_lists_are_short;
-use crate::row_plan::RowPlan;
 use block_sums::SumTable;
-use enc_tables::{MbPlan, SliceKind};
+use enc_tables::{MbPlan, RowPlan, SliceKind};
 use intra_plans::plan_macroblock;
 use motion_search::Steps;
 use picture_planes::Picture;
