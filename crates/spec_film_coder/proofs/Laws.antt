@@ -32,7 +32,7 @@ use Rattle.spec_coding.specs.Trials.{Trial, delays_of, slices_by, picked_by, mov
 use Rattle.spec_coding.specs.Laws.{CoderLaws, steps_of}
 use Rattle.spec_encoding.specs.Encoding.{with_payload}
 use Rattle.spec_encoding.proofs.Coded.{blank_fits, built_fits}
-use Rattle.spec_film_coder.specs.Pictures.{CoderSettings, across, down, format, plain_head, coarsest_head, plain_rule, coarsest_rule, plain_picture, coarsest_picture, film_coder, film_of}
+use Rattle.spec_film_coder.specs.Pictures.{CoderSettings, shape, format, plain_head, coarsest_head, plain_rule, coarsest_rule, plain_picture, coarsest_picture, film_coder, film_of}
 use Rattle.spec_film_coder.specs.Sound.{AreSettings, StepFits, IsSound}
 use Rattle.spec_film_coder.proofs.Moved.{taken}
 use Rattle.spec_film_coder.proofs.Heads.{Ready, HeadsFit, heads_fit, none_moves, command_moves}
@@ -70,15 +70,15 @@ ready c rate s x xs set so =
 -- ---- the slices of a trial
 
 abbrev pictures_by : CoderSettings → State → PlanStep → Planes → Trial → List Slice
-pictures_by c s st source t = if t.coarsest then coarsest_picture c (kept st.idr s.held) st s.idrs source else plain_picture c (kept st.idr s.held) st s.idrs t.qp source
+pictures_by c s st source t = if t.coarsest then coarsest_picture (shape c) (kept st.idr s.held) st s.idrs source else plain_picture (shape c) (kept st.idr s.held) st s.idrs t.qp source
 
 either : {A B : Type 0} (f : A → B) (b : Bool) (xs ys : List A) → (if b then map f xs else map f ys) ≡ map f (if b then xs else ys)
 either f true xs ys = refl
 either f false xs ys = refl
 
-slices_are : (c : CoderSettings) (s : State) (st : PlanStep) (source : Planes) (t : Trial) → slices_by (film_coder c) s st source t ≡ map (with_payload (format c)) (pictures_by c s st source t)
+slices_are : (c : CoderSettings) (s : State) (st : PlanStep) (source : Planes) (t : Trial) → slices_by (film_coder c) s st source t ≡ map (with_payload (format (shape c))) (pictures_by c s st source t)
 unfolding slices_by
-slices_are c s st source t = either (with_payload (format c)) t.coarsest (coarsest_picture c (kept st.idr s.held) st s.idrs source) (plain_picture c (kept st.idr s.held) st s.idrs t.qp source)
+slices_are c s st source t = either (with_payload (format (shape c))) t.coarsest (coarsest_picture (shape c) (kept st.idr s.held) st s.idrs source) (plain_picture (shape c) (kept st.idr s.held) st s.idrs t.qp source)
 
 -- they cover the picture, and tell the number of an IDR picture
 record Told (c : CoderSettings) (held : List Reference) (st : PlanStep) (number : ℕ) (cs : List (CodedSlice Read)) : Type 0 where
@@ -87,30 +87,30 @@ record Told (c : CoderSettings) (held : List Reference) (st : PlanStep) (number 
   id : idr_id_of st.idr lead.idr_id ≡ idr_id_of st.idr (number % 2)
 
 plain_told : (c : CoderSettings) (held : List Reference) (st : PlanStep) (number qp : ℕ) (source : Planes) → AreSettings c → StepFits st.idr st.kind st → PlanesFit source → Ready st.kind st held → qp ≤ 51
-    → Told c held st number (map (with_payload (format c)) (plain_picture c held st number qp source))
+    → Told c held st number (map (with_payload (format (shape c))) (plain_picture (shape c) held st number qp source))
 unfolding plain_picture
 plain_told c held st number qp source set fits g ready small =
     let h : HeadsFit st held number qp (plain_head st held number qp source) =
     heads_fit st.idr st.kind st held number (command_of st.kind st.frame_num source held) qp refl refl fits small ready (command_moves st.idr st.kind st held source fits ready) in
     record {
       lead = plain_head st held number qp source 0;
-      covers = picture_covers c st held number qp (plain_head st held number qp source) (plain_rule c held source) set h (plain_fits c st held number qp (plain_head st held number qp source) source set g small h);
+      covers = picture_covers c st held number qp (plain_head st held number qp source) (plain_rule (shape c) held source) set h (plain_fits c st held number qp (plain_head st held number qp source) source set g small h);
       id = h.id;
     }
 
 coarsest_told : (c : CoderSettings) (held : List Reference) (st : PlanStep) (number : ℕ) (source : Planes) → AreSettings c → StepFits st.idr st.kind st → Ready st.kind st held
-    → Told c held st number (map (with_payload (format c)) (coarsest_picture c held st number source))
+    → Told c held st number (map (with_payload (format (shape c))) (coarsest_picture (shape c) held st number source))
 unfolding coarsest_picture
 coarsest_told c held st number source set fits ready =
     let h : HeadsFit st held number 51 (coarsest_head st held number) = heads_fit st.idr st.kind st held number None 51 refl refl fits (le_refl 51) ready (none_moves st.kind st.frame_num held) in
     record {
       lead = coarsest_head st held number 0;
-      covers = picture_covers c st held number 51 (coarsest_head st held number) (coarsest_rule c held source) set h (coarsest_fits c st held number (coarsest_head st held number) source set h);
+      covers = picture_covers c st held number 51 (coarsest_head st held number) (coarsest_rule (shape c) held source) set h (coarsest_fits c st held number (coarsest_head st held number) source set h);
       id = h.id;
     }
 
 either_told : (c : CoderSettings) (held : List Reference) (st : PlanStep) (number qp : ℕ) (source : Planes) (b : Bool) → AreSettings c → StepFits st.idr st.kind st → PlanesFit source → Ready st.kind st held → qp ≤ 51
-    → Told c held st number (map (with_payload (format c)) (if b then coarsest_picture c held st number source else plain_picture c held st number qp source))
+    → Told c held st number (map (with_payload (format (shape c))) (if b then coarsest_picture (shape c) held st number source else plain_picture (shape c) held st number qp source))
 either_told c held st number qp source true set fits g ready small = coarsest_told c held st number source set fits ready
 either_told c held st number qp source false set fits g ready small = plain_told c held st number qp source set fits g ready small
 
@@ -176,7 +176,7 @@ go_on c rate reorders s x xs t so =
     let a : Access Read = access_of x.0 (picked_by (film_of c rate reorders) (film_coder c) s x.0 x.1 t) in
     let few : s.ledger.units + length (x ∷ xs) ≤ 4000000 = so.few in
     record {
-      held = held_fit c.sequence s.held a (pictures_by c s x.0 x.1 t) (ap (λ (cs : List (CodedSlice Read)). slices_in cs) (slices_are c s x.0 x.1 t) ∙ read_of (format c) (pictures_by c s x.0 x.1 t)) so.held;
+      held = held_fit c.sequence s.held a (pictures_by c s x.0 x.1 t) (ap (λ (cs : List (CodedSlice Read)). slices_in cs) (slices_are c s x.0 x.1 t) ∙ read_of (format (shape c)) (pictures_by c s x.0 x.1 t)) so.held;
       lists = subst (λ (ms : List (ℕ × ℕ)). HasLists c.sequence.refs ms (steps_of xs)) (sym (marks_go_on frames c.sequence s.held a)) so.lists.3;
       steps = so.steps.1;
       few = omega (arith, few);

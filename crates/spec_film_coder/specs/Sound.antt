@@ -14,13 +14,13 @@ use Rattle.spec_plan.specs.Plan.{plan_of}
 use Rattle.spec_plan.specs.Marks.{mark, HasLists, HasRoom}
 use Rattle.spec_coding.specs.Encoding.{State}
 use Rattle.spec_coding.specs.Laws.{steps_of}
-use Rattle.spec_film_coder.specs.Pictures.{CoderSettings, down}
+use Rattle.spec_film_coder.specs.Pictures.{CoderSettings, shape}
 
 -- each slice has a row of macroblocks
 pub record AreSettings (c : CoderSettings) : Type 0 where
   pub sequence : IsSeqHead c.sequence
   pub some : 0 < c.slices
-  pub few : c.slices ≤ down c
+  pub few : c.slices ≤ (shape c).down
   pub range : c.range ≤ 32
 
 -- an IDR picture is an I picture, any other one a P or B picture; their numbers have room in a header
