@@ -1,0 +1,4 @@
+mod Heads
+mod Codes
+mod Strings
+mod Short
