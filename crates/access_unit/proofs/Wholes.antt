@@ -19,11 +19,11 @@ use Rattle.bit_strings.specs.BitText.{BitText, Appends}
 use Rattle.picture_planes.specs.declared.picture.Picture.{Picture}
 use Rattle.picture_planes.specs.Clamped.{rounded}
 use Rattle.picture_planes.specs.Pictures.{planes_of}
-use Rattle.picture_coder.specs.declared.coder.PictureCoder.{PictureCoder}
-use Rattle.picture_coder.specs.Coders.{IsMadeFor, HasPlans, HasSizesOf, OnlyPictureDiffers, slices_for, bits_for}
-use Rattle.picture_coder.specs.Slices.{units_of}
-use Rattle.picture_coder.specs.Sizes.{HasSizes}
-use Rattle.picture_coder.proofs.Streams.{by_parity, picture_is}
+use Rattle.idr_picture_coder.specs.declared.coder.PictureCoder.{PictureCoder}
+use Rattle.idr_picture_coder.specs.Coders.{IsMadeFor, HasPlans, HasSizesOf, OnlyPictureDiffers, slices_for, bits_for}
+use Rattle.idr_picture_coder.specs.Slices.{units_of}
+use Rattle.idr_picture_coder.specs.Sizes.{HasSizes}
+use Rattle.idr_picture_coder.proofs.Streams.{by_parity, picture_is}
 use Rattle.stored_picture.proofs.BlockText.{with_more}
 use Rattle.access_unit.proofs.Making.{first_full, second_full, both_written}
 

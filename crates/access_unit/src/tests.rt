@@ -2,7 +2,7 @@
 use crate::{code_access_unit, plan_access_unit};
 use bit_strings::BitBuf;
 use enc_edge::OpenGate;
-use picture_coder::PictureCoder;
+use idr_picture_coder::PictureCoder;
 use picture_planes::Picture;
 use spec_film::FilmHead;
 use spec_words::Settings;

@@ -9,14 +9,14 @@ ghost use Rattle.spec_decoder.specs.Sets.{across_of, down_of};
 ghost use Rattle.spec_encoding.specs.Frames.{picture_of};
 ghost use Rattle.spec_encoding.specs.Coding.{coded_picture};
 ghost use Rattle.spec_encoding.specs.Encoding.{sequence_of, settled, encoded_picture};
-ghost use Rattle.picture_coder.specs.Coders.{lent_picture, payload_room, IsMadeFor, HasPlans, OnlyPlansDiffer, OnlyPictureDiffers};
-ghost use Rattle.picture_coder.specs.Sizes.{HasSizes};
+ghost use Rattle.idr_picture_coder.specs.Coders.{lent_picture, payload_room, IsMadeFor, HasPlans, OnlyPlansDiffer, OnlyPictureDiffers};
+ghost use Rattle.idr_picture_coder.specs.Sizes.{HasSizes};
 
 use crate::sets::write_parameter_sets;
 use bit_strings::{BitBuf, Full};
 use enc_edge::Gate;
 use enc_tables::{PlanStep, SliceKind};
-use picture_coder::{Job, PictureCoder};
+use idr_picture_coder::{Job, PictureCoder};
 use picture_planes::Picture;
 use spec_film::FilmHead;
 use spec_words::Settings;

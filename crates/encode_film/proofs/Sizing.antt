@@ -3,7 +3,7 @@ use Rattle.std.proofs.Common.{ℕ, ◌∙◌}
 use Rattle.spec_film.specs.declared.FilmHead.{FilmHead}
 use Rattle.picture_planes.specs.declared.picture.Picture.{Picture}
 use Rattle.picture_planes.specs.Pictures.{SameShapes}
-use Rattle.picture_coder.specs.Sizes.{HasSizes}
+use Rattle.idr_picture_coder.specs.Sizes.{HasSizes}
 use Rattle.y4m_film.specs.Sizes.{FitsHead}
 
 -- a picture that is made for the head has the film's sizes, rounded up

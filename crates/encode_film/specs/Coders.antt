@@ -2,8 +2,8 @@
 use Rattle.std.specs.Prelude.{◌≤◌}
 use Rattle.spec_film.specs.declared.FilmHead.{FilmHead}
 use Rattle.spec_words.specs.declared.Settings.{Settings}
-use Rattle.picture_coder.specs.Coders as pictures
-use Rattle.picture_coder.specs.Coders.{payload_room}
+use Rattle.idr_picture_coder.specs.Coders as pictures
+use Rattle.idr_picture_coder.specs.Coders.{payload_room}
 use Rattle.encode_film.specs.declared.unit_coder.UnitCoder.{UnitCoder}
 
 -- it was made for a film with this head and for these settings

@@ -2,7 +2,7 @@
 use Rattle.std.specs.Borrow.{Lends, MutBor, Fml}
 use Rattle.picture_planes.specs.declared.picture.Picture.{Picture}
 use Rattle.picture_planes.specs.contracts.picture.Picture.{the_row as picture_row}
-use Rattle.picture_coder.specs.Lending.{with_picture}
+use Rattle.idr_picture_coder.specs.Lending.{with_picture}
 use Rattle.encode_film.specs.declared.unit_coder.UnitCoder.{UnitCoder}
 use Rattle.encode_film.specs.contracts.unit_coder.UnitCoder.{the_row}
 

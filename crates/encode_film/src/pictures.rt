@@ -8,7 +8,7 @@ ghost use Rattle.spec_stream.specs.Pictures.{IsPicture};
 ghost use Rattle.picture_planes.specs.Samples.{samples_of};
 ghost use Rattle.picture_planes.specs.Pictures.{planes_of};
 ghost use Rattle.y4m_film.specs.Sizes.{FitsHead};
-ghost use Rattle.picture_coder.specs.Sizes.{HasSizes};
+ghost use Rattle.idr_picture_coder.specs.Sizes.{HasSizes};
 ghost use Rattle.encode_film.specs.Coders.{IsMadeFor};
 ghost use Rattle.encode_film.specs.Pictures.{EndLeft, PictureLeft, PicturesLeft};
 

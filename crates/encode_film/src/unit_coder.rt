@@ -4,7 +4,7 @@ ghost use Rattle.std.specs.Borrow.{sem};
 use access_unit::{code_access_unit, plan_access_unit};
 use bit_strings::{BitBuf, Full};
 use enc_edge::Gate;
-use picture_coder::PictureCoder;
+use idr_picture_coder::PictureCoder;
 use picture_planes::Picture;
 use spec_film::FilmHead;
 use spec_words::Settings;
@@ -36,8 +36,8 @@ impl UnitCoder {
     ghost use Rattle.spec_encoding.specs.Frames.{picture_of};
     ghost use Rattle.spec_encoding.specs.Coding.{coded_picture};
     ghost use Rattle.spec_encoding.specs.Encoding.{sequence_of, settled, encoded_picture};
-    ghost use Rattle.picture_coder.specs.Coders.{lent_picture};
-    ghost use Rattle.picture_coder.specs.Sizes.{HasSizes};
+    ghost use Rattle.idr_picture_coder.specs.Coders.{lent_picture};
+    ghost use Rattle.idr_picture_coder.specs.Sizes.{HasSizes};
     ghost use Rattle.encode_film.specs.Coders.{IsMadeFor};
     ghost use Rattle.encode_film.specs.Lending.{LendsKept};
 

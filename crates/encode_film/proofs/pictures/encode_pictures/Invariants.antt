@@ -1,5 +1,5 @@
 use Rattle.std.proofs.Common.{◌≡◌}
-use Rattle.picture_coder.specs.Sizes.{HasSizes}
+use Rattle.idr_picture_coder.specs.Sizes.{HasSizes}
 use Rattle.encode_film.specs.Coders.{IsMadeFor}
 use Rattle.encode_film.proofs.Going.{Going}
 use Rattle.encode_film.proofs.pictures.encode_pictures.Given as goal
