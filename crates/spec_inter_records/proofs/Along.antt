@@ -96,7 +96,7 @@ told_made f h t p n fits g =
     all_made f t.colocated h (record_after (told f h t)) (built_by (told f h t) p) n fits.some fits.qp (task_makes f h t fits) (λ before. slice_bytes f.across t.sources h.first_mb before p g)
 
 -- any task whose facts are those of the header
-records_made : (f : Format) (h : SliceHead) (t : Task) (p : Planes) (n : ℕ) → t.facts ≡ facts_of f h → TaskFits t → PlanesFit p → Made f t.colocated h (task_records t p n)
+pub records_made : (f : Format) (h : SliceHead) (t : Task) (p : Planes) (n : ℕ) → t.facts ≡ facts_of f h → TaskFits t → PlanesFit p → Made f t.colocated h (task_records t p n)
 records_made f h t p n e fits g =
     subst (λ (facts : SliceFacts). Made f t.colocated h (task_records (record t { facts = facts }) p n)) (sym e)
     (told_made f h t p n (subst (λ (facts : SliceFacts). TaskFits (record t { facts = facts })) e fits) g)
@@ -125,5 +125,8 @@ unfolding coarsest_records
 told_coarsest f h t p n some e g =
     all_made f t.colocated h (coarsest_after (told f h t)) (built_by (told f h t) p) n some (omega arith) (coarsest_makes f h t e) (λ before. slice_bytes f.across t.sources h.first_mb before p g)
 
+pub coarsest_made : (f : Format) (h : SliceHead) (t : Task) (p : Planes) (n : ℕ) → t.facts ≡ facts_of f h → 0 < f.across → h.qp ≡ 51 → PlanesFit p → Made f t.colocated h (coarsest_records t p n)
+coarsest_made f h t p n e some q g = subst (λ (facts : SliceFacts). Made f t.colocated h (coarsest_records (record t { facts = facts }) p n)) (sym e) (told_coarsest f h t p n some q g)
+
 pub coarsest_are : (f : Format) (h : SliceHead) (t : Task) (p : Planes) (n : ℕ) → t.facts ≡ facts_of f h → 0 < f.across → h.qp ≡ 51 → PlanesFit p → AreRecords f t.colocated h [] (coarsest_records t p n)
-coarsest_are f h t p n e some q g = subst (λ (facts : SliceFacts). AreRecords f t.colocated h [] (coarsest_records (record t { facts = facts }) p n)) (sym e) (told_coarsest f h t p n some q g).are
+coarsest_are f h t p n e some q g = (coarsest_made f h t p n e some q g).are
