@@ -1,0 +1,4 @@
+pub mod Sharing
+pub mod Planning
+pub mod Asking
+pub mod Counting
