@@ -1,0 +1,13 @@
+pub mod MemorySizes
+pub mod PlanLists
+pub mod PlanJobs
+pub mod JobHeads
+pub mod Sizes
+pub mod WholeStripes
+pub mod SliceRows
+pub mod Written
+pub mod Filtered
+pub mod Counts
+pub mod Short
+pub mod OwnSizes
+pub mod Streams
