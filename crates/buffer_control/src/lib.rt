@@ -173,6 +173,20 @@ impl Ledger {
         self.units += 1;
     }
 
+    /// How many access units were spent.
+    pub fn units(&self) -> u32
+        ensures { result ≡ (spent_of self.now).units }
+    {
+        self.units
+    }
+
+    /// How many bits they have, with start codes and filler.
+    pub fn bits(&self) -> u64
+        ensures { result ≡ (spent_of self.now).bits }
+    {
+        self.bits
+    }
+
     /// The quantisation parameter that is tried first for a picture of this kind.
     pub fn start_qp(&self, kind: SliceKind) -> u8
         ensures { result ≡ start_qp kind (spent_of self.now).qp }

@@ -51,5 +51,6 @@ fn filler_keeps_the_buffer(rt: HostRuntime) -> Result<(), Fail> {
     let mut ledger = Ledger::new(1_000_000, 40_048, 1802, 25, 1, 26);
     let first = spend_most(&mut ledger, 704);
     assert_eq!(rt; first, 19_976);
+    assert_eq!(rt; (ledger.units(), ledger.bits()), (1, 19_976));
     Ok(())
 }
