@@ -1,3 +1,3 @@
-mod Lengths
+pub mod Lengths
 mod Making
-mod Joining
+pub mod Joining
