@@ -1,0 +1,16 @@
+pub mod Ends
+pub mod Ready
+pub mod Sessions
+pub mod Lending
+pub mod Steps
+pub mod Keeping
+pub mod Showing
+pub mod Grouped
+pub mod Left
+pub mod Stepping
+pub mod Going
+pub mod Trying
+pub mod Fronts
+pub mod Asking
+pub mod Listing
+pub mod Beginning
