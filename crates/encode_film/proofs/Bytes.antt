@@ -1,58 +1,17 @@
--- What is written are bytes, and the pictures of a film are bytes.
-use Rattle.std.proofs.Common.{ℕ, zero, suc, ◌+◌, ◌*◌, ◌/◌, ◌≡◌, Bool, true, false, List, [], ◌∷◌, drop, map, ap, ap₂, ◌∙◌, subst, arith, mul_comm, lit≤}
+-- The samples of pictures are bytes.
+use Rattle.std.proofs.Common.{ℕ, zero, suc, ◌+◌, ◌*◌, ◌/◌, ◌≡◌, List, drop, ap, ap₂, ◌∙◌, subst, arith, mul_comm}
 use Rattle.std.specs.List.{All}
 use Rattle.std.proofs.lemmas.List.Elements.{All-nil, All-append, All-take, All-drop}
-use Rattle.spec_bits.specs.Bits.{IsByte, bits_of_bytes, bytes_of_bits}
-use Rattle.spec_bits.proofs.Digits.{bytes_of_bits-bits_of_bytes, bytes_of_bits-are_bytes}
-use Rattle.spec_bits.proofs.Payloads.{unit_bytes-are_bytes}
-use Rattle.spec_headers.specs.HeadFields.{sequence_payload, picture_payload}
-use Rattle.spec_bits.specs.Units.{unit_bytes}
+use Rattle.spec_bits.specs.Bits.{IsByte}
 use Rattle.spec_film.specs.declared.FilmHead.{FilmHead}
-use Rattle.spec_film.specs.Films.{Planes}
-use Rattle.spec_words.specs.declared.Settings.{Settings}
-use Rattle.spec_slice_payload.specs.Layer.{Format, Slice}
-use Rattle.spec_slice_payload.specs.Writing.{layer_payload}
-use Rattle.spec_decoder.specs.Sets.{across_of, down_of}
 use Rattle.spec_stream.specs.Pictures.{IsPicture}
 use Rattle.spec_film.specs.Padding.{padded_size}
-use Rattle.spec_film.specs.Cropping.{shown}
-use Rattle.spec_pictures.specs.Coded.{slice_units, picture_units}
-use Rattle.spec_decoder.specs.Macroblocks.{format_of}
-use Rattle.spec_encoding.specs.Frames.{picture_of}
-use Rattle.spec_encoding.specs.Coding.{coded_picture}
-use Rattle.spec_encoding.specs.Encoding.{sequence_of, settled, with_payload, coded_with_payloads, encoded_picture, reconstructed}
 use Rattle.picture_planes.specs.declared.plane.Plane.{Plane}
 use Rattle.picture_planes.specs.declared.picture.Picture.{Picture}
 use Rattle.picture_planes.specs.Samples.{row_of, rows_to, samples_of}
 use Rattle.picture_planes.specs.Pictures.{planes_of}
 use Rattle.picture_planes.proofs.SampleLaws.{samples_length}
 use Rattle.y4m_film.specs.Sizes.{FitsHead}
-
--- AN ACCESS UNIT
-
-payload_bytes : (f : Format) (s : Slice) → All IsByte (layer_payload f s)
-unfolding layer_payload
-payload_bytes f s = bytes_of_bits-are_bytes _
-
-units_bytes : (f : Format) (slices : List Slice) → All IsByte (slice_units (map (with_payload f) slices))
-units_bytes f [] = All-nil IsByte
-units_bytes f (s ∷ slices) =
-    All-append IsByte (unit_bytes false 3 5 (layer_payload f s)) (slice_units (map (with_payload f) slices))
-    (unit_bytes-are_bytes false 3 5 (layer_payload f s) (lit≤ tt) (lit≤ tt) (payload_bytes f s)) (units_bytes f slices)
-
--- an access unit is bytes
-pub picture_bytes : (h : FilmHead) (s : Settings) (number : ℕ) (source : Planes) → All IsByte (encoded_picture h s number source)
-unfolding encoded_picture picture_units coded_with_payloads sequence_payload picture_payload
-picture_bytes h s number source =
-    All-append IsByte _ _ (unit_bytes-are_bytes true 3 7 (sequence_payload (sequence_of h)) (lit≤ tt) (lit≤ tt) (bytes_of_bits-are_bytes _))
-    (All-append IsByte _ _ (unit_bytes-are_bytes true 3 8 (picture_payload true s.t8x8) (lit≤ tt) (lit≤ tt) (bytes_of_bits-are_bytes _))
-    (units_bytes (format_of (sequence_of h) s.t8x8) (coded_picture (settled h s) number source)))
-
--- what is written is the access unit
-pub unit_is : (unit written : List ℕ) (text : List Bool) → text ≡ bits_of_bytes unit → All IsByte unit → written ≡ bytes_of_bits text → written ≡ unit
-unit_is unit written text is small shown = shown ∙ ap bytes_of_bits is ∙ bytes_of_bits-bits_of_bytes unit small
-
--- SAMPLES
 
 rows_bytes : (p : Plane) (n : ℕ) → All IsByte p.bytes.items → All IsByte (rows_to p n)
 unfolding rows_to
@@ -78,11 +37,3 @@ picture_is h p fits luma cb cr = record {
   cb_bytes = cb;
   cr_bytes = cr;
 }
-
--- CROPPING
-
--- what is shown of the kept picture is the reconstruction
-pub kept_is : (h : FilmHead) (s : Settings) (number : ℕ) (source : Planes) (p : Picture)
-    → planes_of p ≡ picture_of (across_of (sequence_of h)) (down_of (sequence_of h)) [] (coded_picture (settled h s) number source) → shown h (planes_of p) ≡ reconstructed h s number source
-unfolding reconstructed
-kept_is h s number source p is = ap (λ (q : Planes). shown h q) is

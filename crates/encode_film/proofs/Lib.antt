@@ -1,8 +1,14 @@
-pub mod Bytes
-pub mod Coding
-pub mod Deciding
-pub mod Going
-pub mod Growing
-pub mod Running
-pub mod Showing
-pub mod Sizing
+mod Bytes
+mod Filling
+mod Taking
+mod Writing
+mod Grouped
+mod Loading
+mod Wholes
+mod Firsts
+mod Going
+mod Stepping
+mod Wanting
+mod Totals
+mod Running
+mod Deciding

@@ -1,123 +1,167 @@
 -- What a run of `encode` does to the outside.
-use Rattle.std.specs.Prelude.{ℕ, ◌≡◌, ◌≤◌, ◌++◌, true, false, List, [], ◌∷◌, length, drop, None, IfSome}
+use Rattle.std.specs.Prelude.{ℕ, ◌≡◌, ◌≤◌, List, [], length, drop, Some, None, IfSome, Ok, Err}
 use Rattle.enc_edge.specs.declared.studio.Out.{Out}
 use Rattle.enc_edge.specs.declared.studio.Out.TheVariants.{Stream, Recon, Report}
 use Rattle.enc_edge.specs.declared.studio.Place.{Place}
 use Rattle.enc_edge.specs.declared.studio.Place.TheVariants.{Input, Output}
 use Rattle.enc_edge.specs.Seen.{Seen, spot_at}
-use Rattle.enc_edge.specs.Calls.{Rose, OpeningFailed, LaterFailed, opened, shut}
-use Rattle.y4m_film.specs.Writes.{FrontWritten}
+use Rattle.enc_edge.specs.Calls.{Rose, OpeningFailed, LaterFailed, opened}
 use Rattle.spec_film.specs.declared.FilmHead.{FilmHead}
 use Rattle.spec_film.specs.declared.InputFault.{InputFault}
 use Rattle.spec_film.specs.Films.{Planes, Ended, Faulty, film_of}
-use Rattle.spec_film.specs.Written.{head_text}
-use Rattle.spec_words.specs.declared.Settings.{Settings}
-use Rattle.spec_encoding.specs.Encoding.{encoded_stream, reconstruction}
+use Rattle.spec_words.specs.declared.command.Settings.{Settings}
+use Rattle.spec_words.specs.declared.command.SettingFault.{SettingFault}
+use Rattle.spec_buffer.specs.Buffer.{BufferHolds}
+use Rattle.spec_buffer.specs.Ledger.{sizes_of}
+use Rattle.spec_coding.specs.Encoding.{Refusal}
+use Rattle.spec_coding.specs.Laws.{spendings}
+use Rattle.spec_session.specs.Settings.{SessionSettings, setting_of}
+use Rattle.spec_session.specs.Encodings.{encoding, rate_of, IsEncoding}
+use Rattle.spec_session.specs.Groups.{coded_pictures, place_after}
+use Rattle.spec_session.specs.Outputs.{Outputs, AreFronts, outputs_of, written_to, written_whole}
 use Rattle.y4m_film.specs.Taken.{HeadIs, FilmTaken, IsFilm}
-use Rattle.encode_film.specs.Limits.{too_many_slices, is_long, first_long}
-use Rattle.encode_film.specs.Outputs.{Names, reading, all_open, encoding, PictureCut}
-use Rattle.encode_film.specs.Showing.{Shows, Reads}
-use Rattle.spec_decoding.specs.Encodings.{coded_pictures}
+use Rattle.encode_film.specs.Outputs.{Names, reading, all_shut, encoded_to}
+use Rattle.encode_film.specs.Calls.{shut_before}
 
--- nothing of the film up to here is refused: a picture has few enough slices, and no access unit of these pictures is too long
-pub record Allowed (head : FilmHead) (settings : Settings) (pictures : List Planes) : Type 0 where
-  pub few : too_many_slices head settings ≡ false
-  pub short : first_long head settings 0 pictures ≡ None
+-- ---- a film that was encoded to its end
 
--- the run is closed: each fault number is as before, the stream and the reconstruction stand shut under their names, the input open under its name, all
--- else is as before. What was written is the stream of the pictures' access units, and the film of what every decoder shows of it; the slices that are read
--- from it are those of the written choice. Where the input's bytes are told, none is left of them, and they are the film of these pictures.
-pub record Encoded (names : Names) (settings : Settings) (old new : Seen) : Type 0 where
+-- The run is closed: each count of faults is as before, the outputs stand shut under their names, the input open under its name, and all else
+-- is as before. What was written keeps all that is promised of an encoding. Where the input's bytes are told, none is left of them, and they
+-- are the film of these pictures.
+pub record Encoded (names : Names) (s : Settings) (old new : Seen) : Type 0 where
   pub count : ℕ
   pub head : FilmHead
+  pub settings : SessionSettings
   pub pictures : List Planes
-  pub closed : new ≡ shut (Output Recon) (shut (Output Stream) (encoding names head settings pictures count old))
-  pub shows : Shows (encoded_stream head settings pictures) (reconstruction head settings 0 pictures)
-  pub reads : Reads (encoded_stream head settings pictures) (coded_pictures head settings 0 pictures)
-  pub allowed : Allowed head settings pictures
+  pub setting_is : setting_of s head ≡ Ok settings
+  pub keeps : IsEncoding settings pictures (written_whole settings (encoding settings pictures).done).stream
+      (written_whole settings (encoding settings pictures).done).recon (written_whole settings (encoding settings pictures).done).report
+  pub closed : new ≡ all_shut (encoded_to names (written_whole settings (encoding settings pictures).done) count old)
   pub whole : IfSome old.input.bytes (λ left. (drop count left ≡ []) × IsFilm left head pictures Ended)
 
--- the input stands open under its name, its head was read and no byte behind it, and a picture doesn't have too many slices
-pub record HeadRead (names : Names) (settings : Settings) (old new : Seen) : Type 0 where
+-- the same before the outputs are closed
+pub record AllEncoded (names : Names) (s : Settings) (old new : Seen) : Type 0 where
   pub count : ℕ
   pub head : FilmHead
-  pub few : too_many_slices head settings ≡ false
+  pub settings : SessionSettings
+  pub pictures : List Planes
+  pub setting_is : setting_of s head ≡ Ok settings
+  pub keeps : IsEncoding settings pictures (written_whole settings (encoding settings pictures).done).stream
+      (written_whole settings (encoding settings pictures).done).recon (written_whole settings (encoding settings pictures).done).report
+  pub now : new ≡ encoded_to names (written_whole settings (encoding settings pictures).done) count old
+  pub whole : IfSome old.input.bytes (λ left. (drop count left ≡ []) × IsFilm left head pictures Ended)
+
+-- ---- before an output is opened
+
+-- the input stands open under its name, its head was read and no byte behind it
+pub record HeadRead (names : Names) (old new : Seen) : Type 0 where
+  pub count : ℕ
+  pub head : FilmHead
   pub now : new ≡ reading names count old
   pub told : IfSome old.input.bytes (HeadIs head count)
 
+-- and the settings fit the head
+pub record SettingsFit (names : Names) (s : Settings) (old new : Seen) : Type 0 where
+  pub count : ℕ
+  pub head : FilmHead
+  pub settings : SessionSettings
+  pub setting_is : setting_of s head ≡ Ok settings
+  pub now : new ≡ reading names count old
+  pub told : IfSome old.input.bytes (HeadIs head count)
+
+-- or they don't: no output was opened
+pub record SettingRefused (names : Names) (s : Settings) (fault : SettingFault) (old new : Seen) : Type 0 where
+  pub count : ℕ
+  pub head : FilmHead
+  pub refused : setting_of s head ≡ Err fault
+  pub now : new ≡ reading names count old
+  pub told : IfSome old.input.bytes (HeadIs head count)
+
+-- the outputs that stand before one were opened
+abbrev pub opened_before : Names → Out → Seen → Seen
+opened_before names Stream s = s
+opened_before names Recon s = opened (Output Stream) names.stream s
+opened_before names Report s = opened (Output Recon) names.recon (opened (Output Stream) names.stream s)
+
 -- a place couldn't be opened: nothing was written, and where it is the input, nothing was read
 abbrev pub OpenFailed : Names → Settings → Seen → Seen → Place → Type 0
-OpenFailed names settings old new Input = OpeningFailed Input old new
-OpenFailed names settings old new (Output Stream) = (mid : Seen) × HeadRead names settings old mid × OpeningFailed (Output Stream) mid new
-OpenFailed names settings old new (Output Recon) = (mid : Seen) × HeadRead names settings old mid × OpeningFailed (Output Recon) (opened (Output Stream) names.stream mid) new
-OpenFailed names settings old new (Output Report) = ⊥
+OpenFailed names s old new Input = OpeningFailed Input old new
+OpenFailed names s old new (Output out) = (mid : Seen) × SettingsFit names s old mid × OpeningFailed (Output out) (opened_before names out mid) new
 
--- the outside once these pictures of the film were encoded, and n bytes of the input were taken: the first `whole` of them are the head and the pictures
-pub record EncodedSoFar (names : Names) (n : ℕ) (head : FilmHead) (settings : Settings) (pictures : List Planes) (old new : Seen) : Type 0 where
-  pub now : new ≡ encoding names head settings pictures n old
-  pub allowed : Allowed head settings pictures
+-- ---- while pictures are encoded
+
+-- The outside once so many whole groups were encoded, none of whose pictures was refused: each has its access unit, its line in the report, and
+-- the picture that is shown; the report has no last line. Of the n bytes that were taken the first `whole` are the head and these pictures.
+pub record GroupsEncoded (names : Names) (s : Settings) (n groups : ℕ) (old new : Seen) : Type 0 where
+  pub head : FilmHead
+  pub settings : SessionSettings
+  pub pictures : List Planes
+  pub setting_is : setting_of s head ≡ Ok settings
+  pub size : length pictures ≡ (place_after settings groups).display
+  pub none_refused : (encoding settings pictures).refused ≡ None
+  pub now : new ≡ encoded_to names (written_to settings (encoding settings pictures).done) n old
+  pub buffer : BufferHolds (rate_of settings) (sizes_of (spendings (encoding settings pictures).done))
   pub whole : ℕ
   pub within : whole ≤ n
   pub told : IfSome old.input.bytes (λ left. FilmTaken left whole head pictures)
 
--- a read failed: before an output was opened, or after some pictures were encoded
-pub data ReadFault (names : Names) (settings : Settings) (old new : Seen) : Type 0 where
-  in_head : (n : ℕ) → LaterFailed Input (reading names n old) new → ReadFault names settings old new
-  in_pictures : (n : ℕ) (head : FilmHead) (pictures : List Planes) (mid : Seen)
-      → EncodedSoFar names n head settings pictures old mid → LaterFailed Input mid new → ReadFault names settings old new
+-- a read failed: before an output was opened, or behind whole groups
+pub data ReadFault (names : Names) (s : Settings) (old new : Seen) : Type 0 where
+  in_head : (n : ℕ) → LaterFailed Input (reading names n old) new → ReadFault names s old new
+  in_group : (n groups : ℕ) (mid : Seen) → GroupsEncoded names s n groups old mid → LaterFailed Input mid new → ReadFault names s old new
 
--- the outside once these pictures of the film were encoded, and the next one was read, and no picture behind it
-pub record NextRead (names : Names) (settings : Settings) (old new : Seen) : Type 0 where
+-- the film has a fault: the whole groups before it were encoded
+pub record FilmCut (names : Names) (s : Settings) (fault : InputFault) (old new : Seen) : Type 0 where
   pub count : ℕ
   pub head : FilmHead
+  pub settings : SessionSettings
+  pub groups : ℕ
   pub pictures : List Planes
-  pub source : Planes
-  pub now : new ≡ encoding names head settings pictures count old
-  pub allowed : Allowed head settings pictures
-  pub told : IfSome old.input.bytes (λ left. FilmTaken left count head (pictures ++ source ∷ []))
+  pub setting_is : setting_of s head ≡ Ok settings
+  pub size : length pictures ≡ (place_after settings groups).display
+  pub none_refused : (encoding settings pictures).refused ≡ None
+  pub now : new ≡ encoded_to names (written_to settings (encoding settings pictures).done) count old
+  pub buffer : BufferHolds (rate_of settings) (sizes_of (spendings (encoding settings pictures).done))
+  pub told : IfSome old.input.bytes (λ left. ((film_of left).head ≡ Some head) × ((film_of left).end ≡ Faulty fault) × (coded_pictures settings (film_of left) ≡ pictures))
 
--- the outside once all pictures of the film were encoded
-pub record AllEncoded (names : Names) (settings : Settings) (old new : Seen) : Type 0 where
-  pub count : ℕ
-  pub head : FilmHead
-  pub pictures : List Planes
-  pub now : new ≡ encoding names head settings pictures count old
-  pub allowed : Allowed head settings pictures
-  pub whole : IfSome old.input.bytes (λ left. (drop count left ≡ []) × IsFilm left head pictures Ended)
-
--- a write to an output failed, or its closing
-pub data WriteFault (names : Names) (settings : Settings) (old new : Seen) : Out → Type 0 where
-  -- a front of the reconstruction's head was written, and no picture was read
-  head_cut : (mid : Seen) (read : HeadRead names settings old mid) → FrontWritten Recon (head_text read.head) (all_open names mid) new → WriteFault names settings old new Recon
-  -- a front of a picture was written behind those before it
-  picture_cut : (out : Out) (mid : Seen) (read : NextRead names settings old mid) → is_long read.head settings (length read.pictures) read.source ≡ false
-      → PictureCut read.head settings (length read.pictures) read.source mid new out → WriteFault names settings old new out
-  -- all was written
-  closing_stream : (mid : Seen) → AllEncoded names settings old mid → LaterFailed (Output Stream) mid new → WriteFault names settings old new Stream
-  closing_recon : (mid : Seen) → AllEncoded names settings old mid → LaterFailed (Output Recon) (shut (Output Stream) mid) new → WriteFault names settings old new Recon
-
--- the input isn't a film: its head is none, and nothing was written; or the film ends so, and its pictures before that were encoded
-pub data NoFilm (names : Names) (settings : Settings) (fault : InputFault) (old new : Seen) : Type 0 where
+-- the input isn't a film: its head is none, and nothing was written; or one of its pictures
+pub data NoFilm (names : Names) (s : Settings) (fault : InputFault) (old new : Seen) : Type 0 where
   no_head : (n : ℕ) → new ≡ reading names n old
-      → IfSome old.input.bytes (λ left. ((film_of left).head ≡ None) × ((film_of left).end ≡ Faulty fault)) → NoFilm names settings fault old new
-  cut_short : (n : ℕ) (head : FilmHead) (pictures : List Planes) → new ≡ encoding names head settings pictures n old → Allowed head settings pictures
-      → IfSome old.input.bytes (λ left. IsFilm left head pictures (Faulty fault)) → NoFilm names settings fault old new
+      → IfSome old.input.bytes (λ left. ((film_of left).head ≡ None) × ((film_of left).end ≡ Faulty fault)) → NoFilm names s fault old new
+  cut_short : FilmCut names s fault old new → NoFilm names s fault old new
 
--- the head is in order, but a picture would have too many slices: no output was opened, and no byte behind the head was taken
-pub record SlicesRefused (names : Names) (settings : Settings) (old new : Seen) : Type 0 where
+-- A picture was refused: the pictures that were coded before it are written. Where the input's bytes are told, so the encoding of the film ends.
+pub record Refused (names : Names) (s : Settings) (refusal : Refusal) (old new : Seen) : Type 0 where
   pub count : ℕ
   pub head : FilmHead
-  pub many : too_many_slices head settings ≡ true
-  pub now : new ≡ reading names count old
-  pub told : IfSome old.input.bytes (HeadIs head count)
+  pub settings : SessionSettings
+  pub pictures : List Planes
+  pub setting_is : setting_of s head ≡ Ok settings
+  pub refused : (encoding settings pictures).refused ≡ Some refusal
+  pub now : new ≡ encoded_to names (written_to settings (encoding settings pictures).done) count old
+  pub buffer : BufferHolds (rate_of settings) (sizes_of (spendings (encoding settings pictures).done))
+  pub told : IfSome old.input.bytes (λ left. ((film_of left).head ≡ Some head) × (encoding settings (coded_pictures settings (film_of left)) ≡ encoding settings pictures))
 
--- the access unit of the picture of this number, counted from 0, is too long: the pictures before it were encoded
-pub record TooLong (names : Names) (settings : Settings) (number : ℕ) (old new : Seen) : Type 0 where
-  pub read : NextRead names settings old new
-  pub size : length read.pictures ≡ number
-  pub long : is_long read.head settings number read.source ≡ true
+-- A write failed: each output is a front of what the encoding of these pictures gives. Where the input's bytes are told, it is a front of what
+-- the film gives.
+pub record OutputsCut (names : Names) (s : Settings) (out : Out) (old new : Seen) : Type 0 where
+  pub count : ℕ
+  pub head : FilmHead
+  pub settings : SessionSettings
+  pub pictures : List Planes
+  pub setting_is : setting_of s head ≡ Ok settings
+  pub written : Outputs
+  pub fronts : AreFronts written (written_whole settings (encoding settings pictures).done)
+  pub buffer : BufferHolds (rate_of settings) (sizes_of (spendings (encoding settings pictures).done))
+  pub failed : LaterFailed (Output out) (encoded_to names written count old) new
+  pub told : IfSome old.input.bytes (λ left. ((film_of left).head ≡ Some head) × AreFronts written (outputs_of settings (film_of left)))
 
--- nothing outside failed: no fault number rose
+-- a write to an output failed, or its closing, when all was written
+pub data WriteFault (names : Names) (s : Settings) (out : Out) (old new : Seen) : Type 0 where
+  cut : OutputsCut names s out old new → WriteFault names s out old new
+  closing : (mid : Seen) → AllEncoded names s old mid → LaterFailed (Output out) (shut_before out mid) new → WriteFault names s out old new
+
+-- nothing outside failed: no count of faults rose
 pub record NoFault (old new : Seen) : Type 0 where
   pub opening : (place : Place) → ¬ Rose (spot_at place old).opening (spot_at place new).opening
   pub later : (place : Place) → ¬ Rose (spot_at place old).later (spot_at place new).later

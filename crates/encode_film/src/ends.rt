@@ -1,17 +1,12 @@
 // How an encoding ends where not all is done.
 ghost use Rattle.std.specs.Prelude.{◌≡◌};
-ghost use Rattle.encode_film.specs.Faults.{frame_end, head_end};
+ghost use Rattle.encode_film.specs.Faults.{frame_end, group_end, head_end, open_end};
 
 use enc_edge::{Out, Place};
+use enc_session::{GroupEnd, OpenEnd};
 use spec_film::{HeadFault, InputFault};
+use spec_words::command::SettingFault;
 use y4m_film::FrameFault;
-
-/// Which setting doesn't fit the film.
-#[derive(Clone, Copy, Debug, PartialEq, Eq)]
-pub enum SettingFault {
-    /// A picture would have more than 16 slices, or more than rows of macroblocks.
-    Slices,
-}
 
 /// Why a film wasn't encoded to its end.
 #[derive(Clone, Copy, Debug, PartialEq, Eq)]
@@ -27,10 +22,14 @@ pub enum EncodeEnd {
     Input(InputFault),
     /// A setting doesn't fit the film's head. No output was opened then.
     Setting(SettingFault),
-    /// The access unit of a picture has more than 100,000,000 bits.
-    Long {
-        /// The number of the picture, counted from 0.
+    /// Not even the coarsest coding of a picture fits the buffer.
+    Buffer {
+        /// The picture's place in display order, counted from 0.
         picture: u32,
+        /// The bits of its coarsest access unit.
+        need: u64,
+        /// The bits that were there, which are fewer.
+        have: u64,
     },
     /// Memory was wanting. No output was opened then, and of the input the film's head was read and no more.
     OutOfMemory,
@@ -53,5 +52,33 @@ pub(crate) fn frame_end(fault: FrameFault) -> EncodeEnd
     match fault.input_fault() {
         Some(fault) => EncodeEnd::Input(fault),
         None => EncodeEnd::Read,
+    }
+}
+
+// The end where no session was opened.
+pub(crate) fn open_end(end: OpenEnd) -> EncodeEnd
+    ensures { result ≡ open_end end }
+{
+    match end {
+        OpenEnd::Setting(fault) => EncodeEnd::Setting(fault),
+        OpenEnd::OutOfMemory => EncodeEnd::OutOfMemory,
+    }
+}
+
+// The end where a group wasn't coded to its end.
+pub(crate) fn group_end(end: GroupEnd) -> EncodeEnd
+    ensures { result ≡ group_end end }
+{
+    match end {
+        GroupEnd::Buffer {
+            picture,
+            need,
+            have,
+        } => EncodeEnd::Buffer {
+            picture,
+            need,
+            have,
+        },
+        GroupEnd::Write(out) => EncodeEnd::Write(out),
     }
 }

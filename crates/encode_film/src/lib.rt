@@ -1,13 +1,13 @@
-//! The command `encode`: a film becomes a stream of IDR pictures, and the film that a decoder shows of it.
+//! The command `encode`: a film becomes a stream of access units under a constant bit rate, the film that a decoder
+//! shows of it, and a report.
 #![tactic(auto)]
 
-mod closing;
 mod ends;
-mod pictures;
+mod groups;
+mod lines;
+mod places;
+mod reading;
 mod run;
-#[cfg(test)]
-mod tests;
-mod unit_coder;
 
-pub use ends::{EncodeEnd, SettingFault};
+pub use ends::EncodeEnd;
 pub use run::encode;

@@ -1,95 +1,62 @@
-use Rattle.std.proofs.Common.{ap, sym, ◌∙◌, Err}
-use Rattle.encode_film.specs.Leaving.{Leaves}
+use Rattle.std.proofs.Common.{ap, Err}
+use Rattle.enc_session.specs.Sessions.{settings_of}
 use Rattle.encode_film.specs.Outputs.{named}
-use Rattle.encode_film.proofs.Going.{handed_on}
-use Rattle.encode_film.proofs.Running.{head_read, head_stopped, slices_refused, head_passed, recon_unopened, both_open, stopped, closing}
+use Rattle.encode_film.proofs.Running.{begun, closed, fitted, head_read, head_stopped, session_refused, settles, stopped, unopened}
 use Rattle.encode_film.proofs.run.encode_film.Goals as goal
 
 pub returns-in-Err-read_head : goal.returns-in-Err-read_head
 returns-in-Err-read_head g c =
     let seen = g.S.Studio.seen in
-    head_stopped (named c.args.input.now c.args.stream.now c.args.recon.now) c.args.settings.now (seen c.args.studio.now) (seen c.open_in.new.self) (seen c.read_head.new.studio) c.head_end.result c.in-Ok.ensures
+    head_stopped (named c.args.input.now c.args.outputs.now) c.args.settings.now (seen c.args.studio.now) (seen c.open_in.new.self) (seen c.read_head.new.studio) c.head_end.result c.in-Ok.ensures
     c.in-Err-read_head.fault c.head_end.ensures (λ e. c.in-Err-read_head.ensures.read (ap (λ f. Err f) e)) c.in-Err-read_head.ensures.fault
 
-pub returns-then-has_too_many_slices : goal.returns-then-has_too_many_slices
-returns-then-has_too_many_slices g c =
+pub returns-in-Err-open : goal.returns-in-Err-open
+returns-in-Err-open g c =
     let seen = g.S.Studio.seen in
-    let names = named c.args.input.now c.args.stream.now c.args.recon.now in
+    let names = named c.args.input.now c.args.outputs.now in
     let head = c.in-Ok-read_head.head in
     let t = c.in-Ok-read_head.ensures.ok in
     let old = seen c.args.studio.now in
-    let read = head_read names c.args.settings.now head t.0 old (seen c.open_in.new.self) (seen c.read_head.new.studio) c.in-Ok-read_head.ensures.allowed c.in-Ok.ensures t.1 in
-    slices_refused names c.args.settings.now head t.0 old (seen c.read_head.new.studio) read (sym c.has_too_many_slices.ensures ∙ c.if-has_too_many_slices.true)
+    let read = head_read names head t.0 old (seen c.open_in.new.self) (seen c.read_head.new.studio) c.in-Ok-read_head.ensures.allowed c.in-Ok.ensures t.1 in
+    session_refused names c.args.settings.now head t.0 old (seen c.read_head.new.studio) c.in-Err-open.end c.open_end.result read c.requires.early c.open_end.ensures (λ fault e. c.in-Err-open.ensures.fault fault (ap (λ x. Err x) e))
 
-pub returns-in_default : goal.returns-in_default
-returns-in_default g c =
+pub returns-in-Err-open_outputs : goal.returns-in-Err-open_outputs
+returns-in-Err-open_outputs g c =
     let seen = g.S.Studio.seen in
-    let names = named c.args.input.now c.args.stream.now c.args.recon.now in
+    let names = named c.args.input.now c.args.outputs.now in
     let head = c.in-Ok-read_head.head in
     let t = c.in-Ok-read_head.ensures.ok in
     let old = seen c.args.studio.now in
-    let read = head_read names c.args.settings.now head t.0 old (seen c.open_in.new.self) (seen c.read_head.new.studio) c.in-Ok-read_head.ensures.allowed c.in-Ok.ensures t.1 in
-    head_passed names c.args.settings.now head t.0 old (seen c.read_head.new.studio) read (sym c.has_too_many_slices.ensures ∙ c.if-has_too_many_slices.false)
+    let f = settings_of c.in-Ok-open.session in
+    let read = head_read names head t.0 old (seen c.open_in.new.self) (seen c.read_head.new.studio) c.in-Ok-read_head.ensures.allowed c.in-Ok.ensures t.1 in
+    let fits = fitted names c.args.settings.now head f t.0 old (seen c.read_head.new.studio) read c.requires.early c.in-Ok-open.ensures.settings in
+    unopened names c.args.settings.now head f t.0 old (seen c.read_head.new.studio) (seen c.open_outputs.new.studio) c.in-Err-open_outputs.end fits (c.in-Err-open_outputs.ensures c.args.input.now)
 
-pub returns-in_default-with_room : goal.returns-in_default-with_room
-returns-in_default-with_room g c =
-    let seen = g.S.Studio.seen in
-    let names = named c.args.input.now c.args.stream.now c.args.recon.now in
-    let head = c.in-Ok-read_head.head in
-    let t = c.in-Ok-read_head.ensures.ok in
-    let old = seen c.args.studio.now in
-    let read = head_read names c.args.settings.now head t.0 old (seen c.open_in.new.self) (seen c.read_head.new.studio) c.in-Ok-read_head.ensures.allowed c.in-Ok.ensures t.1 in
-    head_passed names c.args.settings.now head t.0 old (seen c.read_head.new.studio) read (sym c.has_too_many_slices.ensures ∙ c.if-has_too_many_slices.false)
+pub encode_pictures-requires-clause-settled : goal.encode_pictures-requires-clause-settled
+encode_pictures-requires-clause-settled g c κs within = settles c.args.settings.now c.in-Ok-read_head.head (settings_of c.in-Ok-open.session) c.in-Ok-open.ensures.settings
 
-pub returns-in_default-new : goal.returns-in_default-new
-returns-in_default-new g c =
+pub returns-in-Err-encode_pictures : goal.returns-in-Err-encode_pictures
+returns-in-Err-encode_pictures g c =
     let seen = g.S.Studio.seen in
-    let names = named c.args.input.now c.args.stream.now c.args.recon.now in
+    let names = named c.args.input.now c.args.outputs.now in
     let head = c.in-Ok-read_head.head in
     let t = c.in-Ok-read_head.ensures.ok in
     let old = seen c.args.studio.now in
-    let read = head_read names c.args.settings.now head t.0 old (seen c.open_in.new.self) (seen c.read_head.new.studio) c.in-Ok-read_head.ensures.allowed c.in-Ok.ensures t.1 in
-    head_passed names c.args.settings.now head t.0 old (seen c.read_head.new.studio) read (sym c.has_too_many_slices.ensures ∙ c.if-has_too_many_slices.false)
-
-pub returns-in-Err-open_out : goal.returns-in-Err-open_out
-returns-in-Err-open_out g c =
-    let seen = g.S.Studio.seen in
-    let names = named c.args.input.now c.args.stream.now c.args.recon.now in
-    let head = c.in-Ok-read_head.head in
-    let t = c.in-Ok-read_head.ensures.ok in
-    let old = seen c.args.studio.now in
-    let read = head_read names c.args.settings.now head t.0 old (seen c.open_in.new.self) (seen c.read_head.new.studio) c.in-Ok-read_head.ensures.allowed c.in-Ok.ensures t.1 in
-    (seen c.read_head.new.studio, head_passed names c.args.settings.now head t.0 old (seen c.read_head.new.studio) read (sym c.has_too_many_slices.ensures ∙ c.if-has_too_many_slices.false), c.in-Err-open_out.ensures)
-
-pub returns-in-Err-open_out-2 : goal.returns-in-Err-open_out-2
-returns-in-Err-open_out-2 g c =
-    let seen = g.S.Studio.seen in
-    let names = named c.args.input.now c.args.stream.now c.args.recon.now in
-    let head = c.in-Ok-read_head.head in
-    let t = c.in-Ok-read_head.ensures.ok in
-    let old = seen c.args.studio.now in
-    let read = head_read names c.args.settings.now head t.0 old (seen c.open_in.new.self) (seen c.read_head.new.studio) c.in-Ok-read_head.ensures.allowed c.in-Ok.ensures t.1 in
-    recon_unopened names c.args.settings.now head t.0 old (seen c.read_head.new.studio) (seen c.open_out.new.self) (seen c.open_out-2.new.self) read (sym c.has_too_many_slices.ensures ∙ c.if-has_too_many_slices.false) c.in-Ok-open_out.ensures c.in-Err-open_out-2.ensures
-
-pub returns-in_err-encode_pictures : goal.returns-in_err-encode_pictures
-returns-in_err-encode_pictures g c =
-    let seen = g.S.Studio.seen in
-    let names = named c.args.input.now c.args.stream.now c.args.recon.now in
-    let head = c.in-Ok-read_head.head in
-    let t = c.in-Ok-read_head.ensures.ok in
-    let old = seen c.args.studio.now in
-    let read = head_read names c.args.settings.now head t.0 old (seen c.open_in.new.self) (seen c.read_head.new.studio) c.in-Ok-read_head.ensures.allowed c.in-Ok.ensures t.1 in
-    let begun = both_open names c.args.settings.now head t.0 old (seen c.read_head.new.studio) (seen c.open_out.new.self) (seen c.open_out-2.new.self) read (sym c.has_too_many_slices.ensures ∙ c.if-has_too_many_slices.false) c.in-Ok-open_out.ensures c.in-Ok-open_out-2.ensures in
-    handed_on (Leaves names c.args.settings.now old (seen c.encode_pictures.new.studio)) c.from_residual.result c.in_err-encode_pictures.field-0.0 c.from_residual.ensures.1
-    (stopped names c.args.settings.now head t.0 old (seen c.open_out-2.new.self) (seen c.encode_pictures.new.studio) begun c.in_err-encode_pictures.field-0.0 c.in_err-encode_pictures.ensures)
+    let f = settings_of c.in-Ok-open.session in
+    let read = head_read names head t.0 old (seen c.open_in.new.self) (seen c.read_head.new.studio) c.in-Ok-read_head.ensures.allowed c.in-Ok.ensures t.1 in
+    let fits = fitted names c.args.settings.now head f t.0 old (seen c.read_head.new.studio) read c.requires.early c.in-Ok-open.ensures.settings in
+    let b = begun names c.args.settings.now head f t.0 old (seen c.read_head.new.studio) (seen c.open_outputs.new.studio) c.requires.range fits (c.in-Ok-open_outputs.ensures c.args.input.now) in
+    stopped names c.args.settings.now head f t.0 old (seen c.open_outputs.new.studio) (seen c.encode_pictures.new.studio) c.in-Err-encode_pictures.end b c.in-Err-encode_pictures.ensures
 
 pub returns : goal.returns
 returns g c =
     let seen = g.S.Studio.seen in
-    let names = named c.args.input.now c.args.stream.now c.args.recon.now in
+    let names = named c.args.input.now c.args.outputs.now in
     let head = c.in-Ok-read_head.head in
     let t = c.in-Ok-read_head.ensures.ok in
     let old = seen c.args.studio.now in
-    let read = head_read names c.args.settings.now head t.0 old (seen c.open_in.new.self) (seen c.read_head.new.studio) c.in-Ok-read_head.ensures.allowed c.in-Ok.ensures t.1 in
-    let begun = both_open names c.args.settings.now head t.0 old (seen c.read_head.new.studio) (seen c.open_out.new.self) (seen c.open_out-2.new.self) read (sym c.has_too_many_slices.ensures ∙ c.if-has_too_many_slices.false) c.in-Ok-open_out.ensures c.in-Ok-open_out-2.ensures in
-    closing names c.args.settings.now head t.0 old (seen c.open_out-2.new.self) (seen c.encode_pictures.new.studio) (seen c.close_outputs.new.studio) c.requires.qp c.requires.slices begun c.in_ok-encode_pictures.ensures c.close_outputs.result c.close_outputs.ensures
+    let f = settings_of c.in-Ok-open.session in
+    let read = head_read names head t.0 old (seen c.open_in.new.self) (seen c.read_head.new.studio) c.in-Ok-read_head.ensures.allowed c.in-Ok.ensures t.1 in
+    let fits = fitted names c.args.settings.now head f t.0 old (seen c.read_head.new.studio) read c.requires.early c.in-Ok-open.ensures.settings in
+    let b = begun names c.args.settings.now head f t.0 old (seen c.read_head.new.studio) (seen c.open_outputs.new.studio) c.requires.range fits (c.in-Ok-open_outputs.ensures c.args.input.now) in
+    closed names c.args.settings.now head f t.0 old (seen c.open_outputs.new.studio) (seen c.encode_pictures.new.studio) (seen c.close_outputs.new.studio) c.close_outputs.result b c.in-Ok-encode_pictures.ensures c.close_outputs.ensures
