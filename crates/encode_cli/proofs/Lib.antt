@@ -1,4 +1,5 @@
+pub mod Meanings
+pub mod Leaving
+pub mod Trying
 pub mod Deciding
-mod Examples
-pub mod Fitting
-pub mod Last
+pub mod Workers

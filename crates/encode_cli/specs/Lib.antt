@@ -1,8 +1,7 @@
-pub mod Answering
-pub mod Commands
-pub mod Encoding
-pub mod Leaving
 pub mod Names
-pub mod Ran
 pub mod Told
-pub mod Words
+pub mod Storing
+pub mod Encoding
+pub mod Trials
+pub mod Doing
+pub mod Alike

@@ -10,7 +10,7 @@ use Rattle.store_film.specs.declared.ends.StoreEnd.{StoreEnd}
 use Rattle.store_film.specs.declared.ends.StoreEnd.TheVariants as store_ends
 use Rattle.encode_cli.specs.Names.{out_name, place_name}
 use Rattle.encode_cli.specs.declared.outcome.Outcome.{Outcome}
-use Rattle.encode_cli.specs.declared.outcome.Outcome.TheVariants.{Done, Words, Open, Read, Write, Input, Setting, Long, OutOfMemory}
+use Rattle.encode_cli.specs.declared.outcome.Outcome.TheVariants.{Done, Words, Open, Read, Write, Input, Setting, Buffer, OutOfMemory}
 
 abbrev pub outcome_of : Result (Unit {0}) EncodeEnd → Outcome
 outcome_of (Ok done) = Done
@@ -19,7 +19,7 @@ outcome_of (Err ends.Read) = Read
 outcome_of (Err (ends.Write out)) = Write out
 outcome_of (Err (ends.Input fault)) = Input fault
 outcome_of (Err (ends.Setting fault)) = Setting fault
-outcome_of (Err (ends.Long picture)) = Long picture
+outcome_of (Err (ends.Buffer picture need have)) = Buffer picture need have
 outcome_of (Err ends.OutOfMemory) = OutOfMemory
 
 abbrev pub stored_outcome : Result (Unit {0}) StoreEnd → Outcome
@@ -35,7 +35,7 @@ status_of Done = 0
 status_of (Words fault) = 2
 status_of (Input fault) = 3
 status_of (Setting fault) = 4
-status_of (Long picture) = 5
+status_of (Buffer picture need have) = 5
 status_of Read = 6
 status_of (Write out) = 7
 status_of (Open place) = 8
@@ -56,13 +56,17 @@ input_line_at (Some picture) = codes "input refused" ++ (codes " at picture " ++
 abbrev pub input_line : InputFault → List ℕ
 input_line fault = input_line_at (refused_picture fault)
 
--- the line of an answer that has no number
+-- the line of a picture that doesn't fit the buffer
+abbrev pub buffer_line : ℕ → ℕ → ℕ → List ℕ
+buffer_line picture need have = ((((codes "picture " ++ decimal picture) ++ codes " needs ") ++ decimal need) ++ codes " bits of ") ++ decimal have
+
+-- the line of an answer without numbers; empty for the others
 abbrev pub word_line : Outcome → List ℕ
 word_line Done = []
 word_line (Words fault) = codes "words refused"
 word_line (Input fault) = []
 word_line (Setting fault) = codes "setting refused"
-word_line (Long picture) = []
+word_line (Buffer picture need have) = []
 word_line Read = codes "read failed"
 word_line (Write out) = codes "write failed: " ++ out_name out
 word_line (Open place) = codes "open failed: " ++ place_name place
@@ -70,7 +74,7 @@ word_line OutOfMemory = codes "out of memory"
 
 -- without its line feed; empty where nothing is printed
 abbrev pub line_of : Outcome → List ℕ
-line_of (Long picture) = codes "picture " ++ (decimal picture ++ codes " too long")
+line_of (Buffer picture need have) = buffer_line picture need have
 line_of Done = []
 line_of (Words fault) = codes "words refused"
 line_of (Input fault) = input_line fault

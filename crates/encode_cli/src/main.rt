@@ -2,17 +2,16 @@
 //! files.
 #![tactic(auto)]
 
-mod command;
 #[cfg(test)]
 mod encode_tests;
-mod numbers;
+mod films;
+mod laws;
 mod outcome;
-mod pairs;
 mod run;
 #[cfg(test)]
-mod tests;
+mod test_films;
 #[cfg(test)]
-mod words_tests;
+mod tests;
 
 use enc_edge::{OpenGate, RealStudio};
 use outcome::{Outcome, fault_line, status};

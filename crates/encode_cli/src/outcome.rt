@@ -1,11 +1,12 @@
 // How a run ends, and what the program tells of it.
-ghost use Rattle.std.specs.Prelude.{◌≡◌, ◌≤◌, length};
-ghost use Rattle.encode_cli.specs.Told.{input_line, line_of, outcome_of, refused_picture, status_of, stored_outcome, word_line};
+ghost use Rattle.std.specs.Prelude.{◌≡◌, ◌≤◌, ◌+◌, ◌++◌, decimal, length};
+ghost use Rattle.arrayvec.specs.ArrayString.{array_string_len};
+ghost use Rattle.encode_cli.specs.Told.{buffer_line, input_line, line_of, outcome_of, refused_picture, status_of, stored_outcome, word_line};
 
-use crate::command::WordFault;
 use arrayvec::ArrayString;
 use enc_edge::{Out, Place};
-use encode_film::{EncodeEnd, SettingFault};
+use encode_film::EncodeEnd;
+use encode_words::{SettingFault, WordFault};
 use itoa::Buffer;
 use spec_film::InputFault;
 use store_film::StoreEnd;
@@ -27,14 +28,19 @@ pub enum Outcome {
     Write(Out),
     /// The input isn't a film: its head is none, or a picture.
     Input(InputFault),
-    /// A setting doesn't fit the film's head. No output was opened then.
+    /// A setting is refused: whatever the film is, and nothing was opened then; or by the film's head, and no output
+    /// was opened then.
     Setting(SettingFault),
-    /// The access unit of a picture has more than 100,000,000 bits.
-    Long {
-        /// The number of the picture, counted from 0.
+    /// Not even the coarsest coding of a picture fits the buffer.
+    Buffer {
+        /// The picture's place in display order, counted from 0.
         picture: u32,
+        /// The bits of its coarsest access unit.
+        need: u64,
+        /// The bits that were there, which are fewer.
+        have: u64,
     },
-    /// Memory was wanting. No output was opened then, and of the input the film's head was read and no more.
+    /// Memory was wanting. No output was opened then, and of the input at most the film's head was read.
     OutOfMemory,
 }
 
@@ -49,7 +55,17 @@ pub fn outcome_of(ended: Result<(), EncodeEnd>) -> Outcome
         Err(EncodeEnd::Write(out)) => Outcome::Write(out),
         Err(EncodeEnd::Input(fault)) => Outcome::Input(fault),
         Err(EncodeEnd::Setting(fault)) => Outcome::Setting(fault),
-        Err(EncodeEnd::Long { picture }) => Outcome::Long { picture },
+        Err(
+            EncodeEnd::Buffer {
+                picture,
+                need,
+                have,
+            },
+        ) => Outcome::Buffer {
+            picture,
+            need,
+            have,
+        },
         Err(EncodeEnd::OutOfMemory) => Outcome::OutOfMemory,
     }
 }
@@ -77,7 +93,7 @@ pub fn status(outcome: &Outcome) -> u8
         Outcome::Words(_) => 2,
         Outcome::Input(_) => 3,
         Outcome::Setting(_) => 4,
-        Outcome::Long { .. } => 5,
+        Outcome::Buffer { .. } => 5,
         Outcome::Read => 6,
         Outcome::Write(_) => 7,
         Outcome::Open(_) => 8,
@@ -85,13 +101,13 @@ pub fn status(outcome: &Outcome) -> u8
     }
 }
 
-// The line of an answer that has no number; empty for the others.
+// The line of an answer without numbers; empty for the others.
 fn line_text(outcome: &Outcome) -> &'static str
     ensures text { result.now ≡ word_line outcome.now }
     ensures short { length result.now ≤ 96 }
 {
     match outcome {
-        Outcome::Done | Outcome::Input(_) | Outcome::Long { .. } => "",
+        Outcome::Done | Outcome::Input(_) | Outcome::Buffer { .. } => "",
         Outcome::Words(_) => "words refused",
         Outcome::Setting(_) => "setting refused",
         Outcome::Read => "read failed",
@@ -131,6 +147,30 @@ fn input_line(fault: &InputFault) -> ArrayString<96>
     line
 }
 
+// Appends a number in decimal digits.
+fn push_number(line: &mut ArrayString<96>, number: u64)
+    requires room { array_string_len line.old + 20 ≤ 96 }
+    ensures bytes { line.new.bytes ≡ line.old.bytes ++ decimal number }
+    ensures room { array_string_len line.new ≤ array_string_len line.old + 20 }
+{
+    let mut buffer = Buffer::new();
+    line.push_str(buffer.format(number));
+}
+
+// The line of a picture that doesn't fit the buffer.
+fn buffer_line(picture: u32, need: u64, have: u64) -> ArrayString<96>
+    ensures { result.bytes ≡ buffer_line picture need have }
+{
+    let mut line = ArrayString::new();
+    line.push_str("picture ");
+    push_number(&mut line, picture as u64);
+    line.push_str(" needs ");
+    push_number(&mut line, need);
+    line.push_str(" bits of ");
+    push_number(&mut line, have);
+    line
+}
+
 /// The line for standard error, without its line feed; empty where nothing is to be printed.
 pub fn fault_line(outcome: &Outcome) -> ArrayString<96>
     ensures { result.bytes ≡ line_of outcome.now }
@@ -138,14 +178,15 @@ pub fn fault_line(outcome: &Outcome) -> ArrayString<96>
     if let Outcome::Input(fault) = outcome {
         return input_line(fault);
     }
-    let mut line = ArrayString::new();
-    if let Outcome::Long { picture } = outcome {
-        let mut number = Buffer::new();
-        line.push_str("picture ");
-        line.push_str(number.format(*picture));
-        line.push_str(" too long");
-        return line;
+    if let Outcome::Buffer {
+        picture,
+        need,
+        have,
+    } = outcome
+    {
+        return buffer_line(*picture, *need, *have);
     }
+    let mut line = ArrayString::new();
     line.push_str(line_text(outcome));
     line
 }

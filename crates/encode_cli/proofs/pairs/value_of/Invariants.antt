@@ -1,9 +1,0 @@
-use Rattle.std.proofs.Common.{◌≡◌, map, length}
-use Rattle.encode_cli.specs.Words.{values_of}
-use Rattle.encode_cli.proofs.pairs.value_of.Given as goal
-
-abbrev pub invariant-loop-left : goal.invariant-loop-left
-invariant-loop-left l = values_of l.name (map (λ w. w.now) l.left) ≡ values_of l.name (map (λ w. w.now) l.words)
-
-abbrev pub decreases-loop-left : goal.decreases-loop-left
-decreases-loop-left l = length l.left

@@ -1,9 +1,0 @@
-use Rattle.std.proofs.Common.{◌≡◌, vec_len}
-use Rattle.idr_picture_coder.specs.Planned.{AreRows}
-use Rattle.idr_picture_coder.proofs.memory.blank_plans.Given as goal
-
-abbrev pub invariant-loop-row : goal.invariant-loop-row
-invariant-loop-row l = record {
-  count : vec_len l.plans ≡ l.row;
-  rows : AreRows l.across l.plans.items;
-}
