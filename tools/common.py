@@ -67,3 +67,10 @@ class Counts:
         total = sum(self.agreed.values())
         print(f"{total} {what} agree, {self.differing} differ")
         sys.exit(1 if self.differing or not total else 0)
+
+
+def film_samples(film, head):
+    """The samples of a film's pictures, without its head and theirs; head is its width and its height."""
+    size = head[0] * head[1] * 3 // 2
+    start = film.index(b"\n") + 1
+    return b"".join(film[i + 6 : i + 6 + size] for i in range(start, len(film), size + 6))

@@ -1,15 +1,14 @@
-"""Compares the built `encode` with a reference encoder's: see compare_encode.sh."""
+"""Compares the built `encode` and `trial` with a reference encoder's: see compare_encode.sh."""
 import os
 import random
 import shutil
 import subprocess
 import sys
 
-from common import units
-from unfiltered import unfiltered
+from common import film_samples
 
-folder, reference, program = sys.argv[1:]
-random.seed(20)
+folder, reference, program, random_runs, seed = sys.argv[1:]
+random.seed(int(seed))
 
 
 def planes(width, height, sample):
@@ -24,31 +23,33 @@ def noise(width, height, most):
     return bytes(random.randrange(most + 1) for _ in range(width * height * 3 // 2))
 
 
+def texture(x, y):
+    return (x * 31 ^ y * 57 ^ (x * y // 3)) % 200 + 20
+
+
 # each kind gives picture t of a film
 KINDS = {
     "grey": lambda w, h, t: bytes([128]) * (w * h * 3 // 2),
-    "black": lambda w, h, t: bytes(w * h * 3 // 2),
     "white": lambda w, h, t: bytes([255]) * (w * h * 3 // 2),
-    "flat": lambda w, h, t: bytes([37 + 50 * t]) * (w * h) + bytes([90]) * (w * h // 4) + bytes([200]) * (w * h // 4),
+    "flat": lambda w, h, t: bytes([(37 + 50 * t) % 256]) * (w * h) + bytes([90]) * (w * h // 4) + bytes([200]) * (w * h // 4),
     "to the right": lambda w, h, t: planes(w, h, lambda x, y: (3 * x + 5 * t) % 256),
     "downwards": lambda w, h, t: planes(w, h, lambda x, y: (4 * y + t) % 256),
-    "diagonal": lambda w, h, t: planes(w, h, lambda x, y: (2 * x + 3 * y + 7 * t) % 256),
-    "steep": lambda w, h, t: planes(w, h, lambda x, y: (29 * x + 17 * y) % 256),
-    "checks of 1": lambda w, h, t: planes(w, h, lambda x, y: 255 * ((x + y + t) % 2)),
+    "moving texture": lambda w, h, t: planes(w, h, lambda x, y: texture(x + 2 * t, y + t)),
+    "still texture": lambda w, h, t: planes(w, h, texture),
+    "half texture": lambda w, h, t: planes(w, h, lambda x, y: (texture((2 * x + t) // 2, y) + texture((2 * x + t + 1) // 2, y)) // 2),
     "checks of 4": lambda w, h, t: planes(w, h, lambda x, y: 30 + 190 * ((x // 4 + y // 4 + t) % 2)),
-    "checks of 8": lambda w, h, t: planes(w, h, lambda x, y: 16 + 219 * ((x // 8 + y // 8 + t) % 2)),
-    "stripes": lambda w, h, t: planes(w, h, lambda x, y: 40 + 170 * ((x // 3 + t) % 2)),
-    "bars": lambda w, h, t: planes(w, h, lambda x, y: 220 - 160 * ((y // 5 + t) % 2)),
+    "stripes": lambda w, h, t: planes(w, h, lambda x, y: 40 + 170 * (((x + t) // 3) % 2)),
+    "bars": lambda w, h, t: planes(w, h, lambda x, y: 220 - 160 * (((y - t) // 5) % 2)),
     "noise": lambda w, h, t: noise(w, h, 255),
     "faint noise": lambda w, h, t: bytes(100 + n for n in noise(w, h, 6)),
-    "circle": lambda w, h, t: planes(w, h, lambda x, y: 210 if (x - w // 2) ** 2 + (y - h // 2 + t) ** 2 < (w * w) // 9 else 60 + x),
+    "circle": lambda w, h, t: planes(w, h, lambda x, y: 210 if (x - w // 2 + 2 * t) ** 2 + (y - h // 2 + t) ** 2 < (w * w) // 9 else 60 + x),
     "waves": lambda w, h, t: planes(w, h, lambda x, y: 128 + (x * x // 7 + y * x // 5 + 11 * t) % 90 - 40),
-    "texture": lambda w, h, t: planes(w, h, lambda x, y: (x * 31 ^ y * 57 ^ (x * y // 3)) % 200 + 20),
+    "a cut": lambda w, h, t: planes(w, h, (lambda x, y: texture(x + t, y)) if t < 3 else (lambda x, y: 200 - texture(y, x - t))),
 }
 
 
-def film(width, height, pictures):
-    return b"YUV4MPEG2 W%d H%d\n" % (width, height) + b"".join(b"FRAME\n" + p for p in pictures)
+def film(width, height, pictures, more=b""):
+    return b"YUV4MPEG2 W%d H%d%s\n" % (width, height, more) + b"".join(b"FRAME\n" + p for p in pictures)
 
 
 def read(path):
@@ -58,9 +59,20 @@ def read(path):
         return file.read()
 
 
-NAMES = ("stream", "recon")
-failed = decoded = compared = switched_off = cropped = 0
+NAMES = ("stream", "recon", "report")
+PARTS = ("status", "output", "line", "stream", "reconstruction", "report")
+failed = decoded = decoded_twice = compared = 0
+statuses = {}
 ffmpeg = shutil.which("ffmpeg")
+gstreamer = shutil.which("gst-launch-1.0")
+if gstreamer and subprocess.run(["gst-inspect-1.0", "openh264dec"], capture_output=True).returncode != 0:
+    gstreamer = None
+source = os.path.join(folder, "film.y4m")
+
+
+def write(data):
+    with open(source, "wb") as file:
+        file.write(data)
 
 
 def run(command, name, words):
@@ -70,201 +82,218 @@ def run(command, name, words):
         if os.path.exists(path):
             os.remove(path)
     ran = subprocess.run(command + [outs.get(w, w) for w in words], capture_output=True)
-    return ran.returncode, ran.stdout, ran.stderr, read(outs["stream"]), read(outs["recon"])
+    return (ran.returncode, ran.stdout, ran.stderr) + tuple(read(outs[n]) for n in NAMES)
 
 
-def compare(title, words, line=None):
-    """Both do the same; where the input is refused, ours prints this line."""
+def compare(title, words):
+    """Both do the same. The reference takes more than one worker from stage 14 on, with no other change."""
     global failed, compared
+    stage = "14" if "--workers" in words else "12"
     ours = run([program], "ours", words)
-    theirs = run([reference, "--stage", "6"], "theirs", words)
-    if line is not None and theirs[0] == 3:
-        theirs = theirs[:2] + (line,) + theirs[3:]
+    theirs = run([reference, "--stage", stage], "theirs", words)
     compared += 1
+    statuses[theirs[0]] = statuses.get(theirs[0], 0) + 1
     if ours != theirs:
         failed += 1
-        parts = ("status", "output", "line", "stream", "reconstruction")
-        differing = [part for part, a, b in zip(parts, ours, theirs) if a != b]
+        differing = [part for part, a, b in zip(PARTS, ours, theirs) if a != b]
         print(f"differs: {title}: {', '.join(differing)}; {ours[0]} {ours[2]!r}, reference {theirs[0]} {theirs[2]!r}")
+        print(f"  words: {' '.join(words)}")
     return ours
 
 
-def padded(picture, width, height):
-    """A picture of whole macroblocks: its last column and its last row are repeated."""
-    out, at = b"", 0
-    for wide, high, unit in ((width, height, 16), (width // 2, height // 2, 8), (width // 2, height // 2, 8)):
-        rows = [picture[at + y * wide:at + (y + 1) * wide] for y in range(high)]
-        rows = [row + row[-1:] * (-wide % unit) for row in rows]
-        out += b"".join(rows + rows[-1:] * (-high % unit))
-        at += wide * high
-    return out
-
-
-def cut(picture, width, height):
-    """The part of a padded picture that is shown."""
-    out, at = b"", 0
-    for wide, high, unit in ((width, height, 16), (width // 2, height // 2, 8), (width // 2, height // 2, 8)):
-        across, down = wide + -wide % unit, high + -high % unit
-        out += b"".join(picture[at + y * across:at + y * across + wide] for y in range(high))
-        at += across * down
-    return out
-
-
-def compare_cropped(title, width, height, pictures, words):
-    """The stream is that of the padded film with another sequence parameter set, the one of the film stored; the reconstruction is cropped."""
-    global failed, cropped
-    wide, high = width + -width % 16, height + -height % 16
-    head = b"YUV4MPEG2 W%d H%d F24000:1001 Ip C420\n" % (width, height)
-    write(head + b"".join(b"FRAME\n" + p for p in pictures))
-    ours = run([program], "ours", ENCODE + words)
-    stored = run([reference], "stored", ["store", "--in", source, "--out", "stream"])
-    write(film(wide, high, [padded(p, width, height) for p in pictures]))
-    theirs = run([reference, "--stage", "6"], "theirs", ENCODE + words)
-    shown_pictures = samples(theirs[4], (wide, high))
-    size = wide * high * 3 // 2
-    recon = head + b"".join(b"FRAME\n" + cut(shown_pictures[i:i + size], width, height) for i in range(0, len(shown_pictures), size))
-    sequence = next(payload for kind, payload in units(stored[3]) if kind & 31 == 7)
-    stream = [(kind, sequence if kind & 31 == 7 else payload) for kind, payload in units(theirs[3])]
-    cropped += 1
-    if ours[0] != 0 or theirs[0] != 0 or list(units(ours[3])) != stream or ours[4] != recon:
-        failed += 1
-        print(f"differs: {title}")
-    decode(title, (width, height), ours)
-
-
-def samples(film, head):
-    """The samples of a film's pictures, without its head and theirs."""
-    size = head[0] * head[1] * 3 // 2
-    start = film.index(b"\n") + 1
-    return b"".join(film[i + 6:i + 6 + size] for i in range(start, len(film), size + 6))
-
-
-def shown(stream):
-    """What ffmpeg decodes of a stream."""
+def decoded_by(command, stream):
+    """What a decoder makes of a stream."""
     inside, outside = os.path.join(folder, "decoded.264"), os.path.join(folder, "decoded")
     with open(inside, "wb") as file:
         file.write(stream)
-    words = [ffmpeg, "-v", "error", "-y", "-f", "h264", "-i", inside, "-fps_mode", "passthrough", "-f", "rawvideo", "-pix_fmt", "yuv420p", outside]
-    subprocess.run(words, check=True)
+    if os.path.exists(outside):
+        os.remove(outside)
+    subprocess.run(command(inside, outside), check=True, stdout=subprocess.DEVNULL)
     return read(outside)
 
 
+def by_ffmpeg(inside, outside):
+    return [ffmpeg, "-v", "error", "-y", "-f", "h264", "-i", inside, "-fps_mode", "passthrough", "-f", "rawvideo", "-pix_fmt", "yuv420p", outside]
+
+
+def by_gstreamer(inside, outside):
+    return [gstreamer, "-q", "filesrc", f"location={inside}", "!", "h264parse", "!", "openh264dec", "!", "video/x-raw,format=I420", "!", "filesink", f"location={outside}"]
+
+
 def decode(title, head, ours):
-    """The stream, decoded by ffmpeg, is the reconstruction."""
-    global failed, decoded
-    if not ffmpeg or ours[0] != 0 or not ours[3]:
+    """The stream, decoded by others, is the reconstruction; also the whole pictures before a refusal."""
+    global failed, decoded, decoded_twice
+    if not ffmpeg or not ours[3]:
         return
+    samples = film_samples(ours[4], head)
     decoded += 1
-    if shown(ours[3]) != samples(ours[4], head):
+    if decoded_by(by_ffmpeg, ours[3]) != samples:
         failed += 1
-        print(f"decoded otherwise: {title}")
+        print(f"ffmpeg decodes otherwise: {title}")
+    if gstreamer and b" B qp " not in ours[5] and head[0] % 4 == 0 and head[1] % 2 == 0:
+        decoded_twice += 1
+        if decoded_by(by_gstreamer, ours[3]) != samples:
+            failed += 1
+            print(f"OpenH264 decodes otherwise: {title}")
 
 
-def compare_unfiltered(title, head, words, ours):
-    """The stream, its filter switched off, is the one that the reference writes without the filter, and shows its reconstruction."""
-    global failed, switched_off
-    if ours[0] != 0:
-        return
-    theirs = run([reference, "--stage", "5"], "theirs", words)
-    switched_off += 1
-    stream = unfiltered(ours[3])
-    if theirs[0] != 0 or stream != theirs[3]:
-        failed += 1
-        print(f"differs without the filter: {title}")
-    elif ffmpeg and shown(stream) != samples(theirs[4], head):
-        failed += 1
-        print(f"decoded otherwise without the filter: {title}")
+PLACES = ["--in", source, "--out", "stream", "--recon", "recon", "--report", "report"]
+ENCODE = ["encode"] + PLACES
+OUTPUTS = ["--out", "stream", "--recon", "recon", "--report", "report"]
 
+# every kind of film, at the defaults and at settings that differ from film to film
+for number, (kind, picture) in enumerate(KINDS.items()):
+    for width, height, count in [(16, 16, 4), (48, 32, 5), (34, 50, 6)]:
+        write(film(width, height, [picture(width, height, t) for t in range(count)]))
+        for words in [
+            ["--bitrate", "1000000"],
+            ["--bitrate", "200000", "--qp", str(number * 3), "--refs", str(1 + number % 4), "--bframes", "0", "--t8x8", "off"],
+            ["--bitrate", "3000000", "--qp", str(51 - number * 3), "--bframes", str(1 + number % 4), "--idr", str(2 + number % 5), "--range", str(1 + 2 * number)],
+        ]:
+            title = f"{kind}, {width}x{height} {' '.join(words)}"
+            decode(title, (width, height), compare(title, ENCODE + words))
 
-source = os.path.join(folder, "film.y4m")
+# each option at other values than its default, and at more than one size
+for width, height in [(32, 48), (64, 32), (18, 34)]:
+    write(film(width, height, [KINDS["moving texture"](width, height, t) for t in range(7)], b" F30:1"))
+    for words in (
+        [["--qp", q] for q in ("0", "13", "38", "51")]
+        + [["--refs", r] for r in ("2", "3", "4")]
+        + [["--refs", "1", "--bframes", "0"], ["--refs", "1"]]
+        + [["--bframes", b] for b in ("0", "1", "3", "4")]
+        + [["--idr", i] for i in ("1", "2", "5", "600")]
+        + [["--range", r] for r in ("1", "7", "32")]
+        + [["--slices", s] for s in ("2", "3", "4", "17")]
+        + [["--workers", w] for w in ("2", "64")]
+        + [["--level", level] for level in ("10", "30", "51", "9", "62")]
+        + [["--cpb", c] for c in ("40000", "1000000", "100000000", "100000016", "16")]
+        + [["--delay", d] for d in ("0", "1", "45000", "90000", "4294967295")]
+        + [["--t8x8", t] for t in ("on", "off")]
+    ):
+        title = f"{width}x{height} {' '.join(words)}"
+        decode(title, (width, height), compare(title, ENCODE + ["--bitrate", "1000000"] + words))
 
-
-def write(data):
-    with open(source, "wb") as file:
-        file.write(data)
-
-
-ENCODE = ["encode", "--in", source, "--out", "stream", "--recon", "recon"]
-turn = 0
-for kind, picture in KINDS.items():
-    for across in range(1, 5):
-        for down in range(1, 5):
-            width, height = 16 * across, 16 * down
-            count = 1 + (across + down) % 2
-            write(film(width, height, [picture(width, height, t) for t in range(count)]))
-            for qp in (0, 1, 26, 50, 51):
-                turn += 1
-                slices, t8x8 = 1 + turn % down, "on" if turn // 2 % 2 else "off"
-                title = f"{kind}, {across}x{down}, QP {qp}, {slices} slices, t8x8 {t8x8}"
-                words = ENCODE + ["--qp", str(qp), "--slices", str(slices), "--t8x8", t8x8]
-                ours = compare(title, words)
-                decode(title, (width, height), ours)
-                compare_unfiltered(title, (width, height), words, ours)
-
-# larger pictures of several slices, at defaults too
+# larger pictures, at the defaults too
 for width, height, kind, words in [
-    (176, 144, "texture", []),
+    (176, 144, "moving texture", []),
     (176, 144, "circle", ["--slices", "9", "--qp", "37"]),
-    (352, 288, "waves", ["--slices", "5", "--qp", "12", "--t8x8", "off"]),
-    (352, 288, "texture", ["--qp", "33"]),
-    (48, 256, "noise", ["--slices", "16", "--qp", "20"]),
-    (4096, 16, "diagonal", ["--qp", "30"]),
-    (16, 2304, "diagonal", ["--qp", "30", "--slices", "16"]),
+    (352, 288, "waves", ["--slices", "5", "--qp", "22", "--t8x8", "off"]),
+    (48, 256, "noise", ["--slices", "16", "--qp", "30", "--range", "4"]),
+    (2048, 16, "to the right", ["--qp", "30"]),
+    (16, 1600, "downwards", ["--qp", "30", "--slices", "16"]),
 ]:
-    write(film(width, height, [KINDS[kind](width, height, t) for t in range(2)]))
+    write(film(width, height, [KINDS[kind](width, height, t) for t in range(4)]))
     title = f"{kind}, {width}x{height} {' '.join(words)}"
-    ours = compare(title, ENCODE + words)
-    decode(title, (width, height), ours)
-    compare_unfiltered(title, (width, height), ENCODE + words, ours)
+    decode(title, (width, height), compare(title, ENCODE + ["--bitrate", "4000000"] + words))
 
-# sizes that are padded
-for width, height in [(18, 18), (16, 18), (18, 16), (34, 20), (22, 46), (30, 50), (62, 34), (354, 290)]:
-    for kind, words in [("texture", []), ("noise", ["--qp", "20", "--slices", "2" if height > 16 else "1"]), ("waves", ["--qp", "44", "--t8x8", "off"])]:
-        pictures = [KINDS[kind](width, height, t) for t in range(2)]
-        compare_cropped(f"{kind}, {width}x{height} {' '.join(words)}", width, height, pictures, words)
+# buffers that are just large enough, and such that are too small
+grey = film(16, 16, [KINDS["grey"](16, 16, 0)] * 2)
+for data, words in [
+    (grey, ["--bitrate", "64"]),
+    (grey, ["--bitrate", "64", "--cpb", "2048", "--idr", "1"]),
+    (grey, ["--bitrate", "1000000", "--cpb", "40048", "--delay", "1802"]),
+    (grey, ["--bitrate", "1000000", "--cpb", "40032"]),
+    (film(32, 32, [noise(32, 32, 255) for _ in range(8)]), ["--bitrate", "100000", "--cpb", "8000"]),
+    (film(32, 32, [noise(32, 32, 255) for _ in range(8)]), ["--bitrate", "30000", "--cpb", "2000"]),
+    (film(48, 48, [KINDS["a cut"](48, 48, t) for t in range(8)]), ["--bitrate", "50000", "--cpb", "4096", "--delay", "1000"]),
+]:
+    write(data)
+    compare(f"buffer {' '.join(words)}", ENCODE + words)
 
-# words that are refused
-grey = film(16, 16, [KINDS["grey"](16, 16, 0)])
+# words that are refused, and such that are read in another form
 write(grey)
+RATE = ["--bitrate", "1000000"]
 for words in [
-    [], ["encode"], ["shop"], ["Encode"] + ENCODE[1:], ENCODE[:-1], ENCODE[:5], ENCODE[:3] + ENCODE[5:],
-    ENCODE + ["--qp", "52"], ENCODE + ["--qp", "-1"], ENCODE + ["--qp", ""], ENCODE + ["--qp", "1", "--qp", "1"],
-    ENCODE + ["--qp", "00000000026"], ENCODE + ["--qp", "0000000026"], ENCODE + ["--qp", "+26"], ENCODE + ["--qp", "26 "],
-    ENCODE + ["--slices", "0"], ENCODE + ["--slices", "256"], ENCODE + ["--slices", "2"], ENCODE + ["--slices", "17"], ENCODE + ["--slices", "255"],
-    ENCODE + ["--t8x8", "yes"], ENCODE + ["--t8x8", "On"], ENCODE + ["--in", source], ENCODE + ["--report", "r"], ENCODE + ["x"], ["store"] + ENCODE[1:],
+    [], ["encode"], ["shop"], ["Encode"] + PLACES + RATE, ENCODE, ENCODE[:-1] + RATE, ENCODE + RATE[:1], ENCODE + ["--bitrate", "63"],
+    ENCODE + ["--bitrate", "64"], ENCODE + ["--bitrate", "127"], ENCODE + ["--bitrate", "360000000"], ENCODE + ["--bitrate", "360000001"],
+    ENCODE + ["--bitrate=1000000"], ENCODE + ["--bitrate=1000000", "--qp=30"], ENCODE + RATE + RATE, ENCODE + RATE + ["--qp", "52"],
+    ENCODE + RATE + ["--qp", "-1"], ENCODE + RATE + ["--qp", ""], ENCODE + RATE + ["--qp", "+26"], ENCODE + RATE + ["--qp", "026"],
+    ENCODE + RATE + ["--refs", "0"], ENCODE + RATE + ["--refs", "5"], ENCODE + RATE + ["--bframes", "5"], ENCODE + RATE + ["--idr", "0"],
+    ENCODE + RATE + ["--idr", "601"], ENCODE + RATE + ["--range", "0"], ENCODE + RATE + ["--range", "33"], ENCODE + RATE + ["--slices", "0"],
+    ENCODE + RATE + ["--slices", "256"], ENCODE + RATE + ["--slices", "2"], ENCODE + RATE + ["--workers", "0"], ENCODE + RATE + ["--workers", "65"],
+    ENCODE + RATE + ["--level", "256"], ENCODE + RATE + ["--t8x8", "yes"], ENCODE + RATE + ["--t8x8", "On"], ENCODE + RATE + ["x"],
+    ENCODE + RATE + ["--help"], ENCODE + RATE + ["--version"], ENCODE + RATE + ["--seed", "1"], ["store"] + PLACES,
+    ["store", "--in", source, "--out", "stream"], ["store", f"--in={source}", "--out", "stream"], ["store", "--in", source], ["trial"] + OUTPUTS + RATE,
 ]:
     compare(f"words {words}", words)
 
+# trial
+for words in [
+    ["--seed", "0", "--width", "16", "--height", "16", "--pictures", "0"], ["--seed", "7", "--width", "64", "--height", "64", "--pictures", "9", "--slices", "4"],
+    ["--seed", "18446744073709551615", "--width", "34", "--height", "18", "--pictures", "5"], ["--seed", "1", "--width", "17", "--height", "16", "--pictures", "2"],
+    ["--seed", "18446744073709551616", "--width", "16", "--height", "16", "--pictures", "1"], ["--seed", "1", "--width", "1922", "--height", "16", "--pictures", "1"],
+    ["--seed", "1", "--width", "16", "--height", "16", "--pictures", "301"], ["--seed", "1", "--width", "16", "--height", "16", "--pictures", "3", "--refs", "1"],
+]:
+    ours = compare(f"trial {words}", ["trial"] + OUTPUTS + RATE + words)
+    if ours[0] == 0:
+        decode(f"trial {words}", (int(words[3]), int(words[5])), ours)
+
 # films that are refused, and where their faults stand
-noise_film = film(32, 32, [noise(32, 32, 255) for _ in range(3)])
-at_head, at_picture = b"input refused\n", b"input refused at picture %d\n"
-faults = {
-    "cut in its second picture": (noise_film[:len(noise_film) - 1700], at_picture % 1),
-    "cut at its end": (noise_film[:-1], at_picture % 2),
-    "bytes behind it": (noise_film + b"F", at_picture % 3),
-    "no head": (b"RIFF", at_head),
-    "nothing": (b"", at_head),
-    "no pictures": (b"YUV4MPEG2 W16 H16\n", b""),
-    "an odd size": (b"YUV4MPEG2 W17 H16\n", at_head),
-    "another word for a picture": (noise_film.replace(b"FRAME\n", b"FRAMES", 1), at_picture % 0),
-}
-# The reference, at the stage whose words these are, doesn't name the picture.
-for title, (data, line) in faults.items():
+whole = film(32, 32, [noise(32, 32, 255) for _ in range(6)])
+for title, data in {
+    "cut in its second picture": whole[: 20 + 1542 + 700],
+    "cut in its fifth picture": whole[: -1600],
+    "cut at its end": whole[:-1],
+    "bytes behind it": whole + b"F",
+    "other bytes behind it": whole + b"G",
+    "no head": b"RIFF",
+    "nothing": b"",
+    "no pictures": b"YUV4MPEG2 W16 H16\n",
+    "an odd size": b"YUV4MPEG2 W17 H16\n",
+    "too small": b"YUV4MPEG2 W14 H16\n",
+    "no height": b"YUV4MPEG2 W16\n",
+    "interlaced": b"YUV4MPEG2 W16 H16 It\n",
+    "other chroma": b"YUV4MPEG2 W16 H16 C444\n",
+    "a rate too high": b"YUV4MPEG2 W16 H16 F173:1\n",
+    "another word for a picture": whole.replace(b"FRAME\n", b"FRAMES", 1),
+    "words behind FRAME": whole.replace(b"FRAME\n", b"FRAME Ip\n", 2),
+}.items():
     write(data)
-    compare(title, ENCODE, line)
-    compare(title, ENCODE + ["--slices", "3"], line)
+    for words in ([], ["--slices", "3"], ["--bframes", "0", "--idr", "2"]):
+        compare(f"film: {title} {' '.join(words)}", ENCODE + RATE + words)
 
 # places that can't be opened, in order
 write(grey)
 nowhere = os.path.join(folder, "nowhere", "file")
-for words in [
-    ["encode", "--in", nowhere, "--out", "stream", "--recon", "recon"],
-    ["encode", "--in", source, "--out", nowhere, "--recon", "recon"],
-    ["encode", "--in", source, "--out", "stream", "--recon", nowhere],
-    ["encode", "--in", source, "--out", nowhere, "--recon", nowhere],
-    ["encode", "--in", nowhere, "--out", nowhere, "--recon", nowhere, "--slices", "9"],
-]:
-    compare(f"words {words}", words)
+for missing in range(1, 16):
+    names = [nowhere if missing >> k & 1 else name for k, name in enumerate((source, "stream", "recon", "report"))]
+    compare(f"no {missing}", ["encode", "--in", names[0], "--out", names[1], "--recon", names[2], "--report", names[3]] + RATE)
+compare("no input, bad settings", ["encode", "--in", nowhere] + OUTPUTS + RATE + ["--refs", "1"])
+compare("no input, settings against the film", ["encode", "--in", nowhere] + OUTPUTS + RATE + ["--slices", "99"])
+compare("no output, settings against the film", ["encode", "--in", source, "--out", nowhere, "--recon", "recon", "--report", "report"] + RATE + ["--slices", "99"])
 
-print(f"compared {compared} runs with the reference, {switched_off} of them also without the filter, {cropped} of padded films, {decoded} streams decoded by ffmpeg, {failed} differ")
-sys.exit(1 if failed else 0)
+# random runs
+print(f"random runs: {random_runs} by the seed {seed}")
+for number in range(int(random_runs)):
+    width, height = 2 * random.randrange(8, 40), 2 * random.randrange(8, 40)
+    kind = random.choice(list(KINDS))
+    pictures = [KINDS[kind](width, height, t) for t in range(random.randrange(0, 11))]
+    rate_of_film = random.choice([b"", b" F25:1", b" F30000:1001", b" F50:2", b" F12:1 Ip", b" F0:0"])
+    data = film(width, height, pictures, rate_of_film)
+    if random.random() < 0.1:
+        data = data[: random.randrange(len(data) + 1)]
+    write(data)
+    rate = int(2 ** random.uniform(12, 23))
+    words = ["--bitrate", str(rate)]
+
+    def maybe(chance, name, value):
+        if random.random() < chance:
+            words.extend([name, str(value)])
+
+    maybe(0.6, "--qp", random.randrange(52))
+    maybe(0.5, "--refs", random.randrange(1, 5))
+    maybe(0.5, "--bframes", random.randrange(5))
+    maybe(0.5, "--idr", random.choice([1, 2, 3, 5, 7, 250]))
+    maybe(0.5, "--range", random.randrange(1, 33))
+    maybe(0.4, "--slices", random.randrange(1, 5))
+    maybe(0.2, "--workers", random.randrange(1, 9))
+    maybe(0.4, "--t8x8", random.choice(["on", "off"]))
+    maybe(0.3, "--cpb", int(rate * 2 ** random.uniform(-4, 1)) + 16)
+    maybe(0.05, "--delay", random.randrange(100000))
+    maybe(0.03, "--level", random.choice([10, 13, 20, 30, 40, 51]))
+    title = f"random run {number}: {kind}, {width}x{height}, {len(pictures)} pictures"
+    decode(title, (width, height), compare(title, ENCODE + words))
+
+told = ", ".join(f"{count} with status {status}" for status, count in sorted(statuses.items()))
+print(f"compared {compared} runs with the reference ({told}), {decoded} streams decoded by ffmpeg, {decoded_twice} by OpenH264, {failed} differ")
+sys.exit(1 if failed or not compared else 0)
