@@ -130,7 +130,8 @@ def decode(title, head, ours):
     if decoded_by(by_ffmpeg, ours[3]) != samples:
         failed += 1
         print(f"ffmpeg decodes otherwise: {title}")
-    if gstreamer and b" B qp " not in ours[5] and head[0] % 4 == 0 and head[1] % 2 == 0:
+    # GStreamer ends the rows of its planes at multiples of 4 bytes, and shows nothing of a stream of one picture.
+    if gstreamer and b" B qp " not in ours[5] and head[0] % 8 == 0 and len(samples) >= 3 * head[0] * head[1]:
         decoded_twice += 1
         if decoded_by(by_gstreamer, ours[3]) != samples:
             failed += 1
